@@ -1,27 +1,23 @@
 use Rattle.std.proofs.Common.{Bor}
-use Rattle.std.specs.Prelude.{◌≡◌, ◌⊎◌, ℕ, Bool, true, false, nat_eq, if◌then◌else◌, List, [], ◌∷◌, ◌++◌, Option, None, Some, IfSome, codes}
-use Rattle.std.specs.List.{starts_with}
+use Rattle.std.specs.Prelude.{◌≡◌, ◌⊎◌, ℕ, false, List, [], ◌∷◌, ◌++◌, Option, None, Some, IfSome}
 use Rattle.m161_machine.specs.declared.conf.BootError.TheVariants.{Load}
-use Rattle.m161_machine.specs.declared.event.Entry.{Entry}
 use Rattle.m161_machine.specs.declared.event.Event.{Event}
 use Rattle.m161_machine.specs.Conf.{is_within_limits}
-use Rattle.m161_machine.specs.History.{History, boot_fault, events_of}
+use Rattle.m161_machine.specs.History.{History, boot_fault}
 use Rattle.m161_machine.specs.State.{State}
 use Rattle.m161_dis.specs.declared.naming.Style.{Style}
-use Rattle.m161_text.specs.Lines.{FirstBad, lines_of}
-use Rattle.m161_steplog.specs.Comments.{IsFirstBadOfLog, is_comment}
-use Rattle.m161_steplog.specs.Schedule.{AreScheduleLines, IsSchedule}
 use Rattle.s161_command.specs.declared.task.AskedSize.{AskedSize}
 use Rattle.s161_command.specs.declared.task.DebugTask.{DebugTask}
 use Rattle.s161_command.specs.declared.task.Source.{Source}
 use Rattle.s161_command.specs.declared.task.Source.TheVariants as source
 use Rattle.s161_base.specs.Asked.{image_files, option_files}
 use Rattle.s161_base.specs.declared.fault.Fault.{Fault}
-use Rattle.s161_base.specs.declared.fault.Fault.TheVariants.{Conf, Image, Log, LogImage, LogMachine, Memory, Schedule}
+use Rattle.s161_base.specs.declared.fault.Fault.TheVariants.{Conf, Image, LogImage, LogMachine, Memory}
 use Rattle.s161_base.specs.Faults.{BootsTo}
 use Rattle.s161_base.specs.Known.{OfKnown, OfText}
-use Rattle.s161_base.specs.declared.machines.LoggedMachine.{LoggedMachine}
-use Rattle.s161_base.specs.Machines.{IsLogOf, asked_conf, machine_fault}
+use Rattle.s161_base.specs.declared.machines.NamedMachine.{NamedMachine}
+use Rattle.s161_base.specs.Listed.{IsListFault, Lists}
+use Rattle.s161_base.specs.Machines.{asked_conf, machine_fault}
 use Rattle.s161_base.specs.Naming.{style_of}
 use Rattle.s161_base.specs.Reading.{IsFileUnread, IsOfBytes, IsOfText}
 use Rattle.s161_base.specs.Samples.{IsFileName}
@@ -41,49 +37,27 @@ source_files (source.Driven drive) = option_files drive.keys
 abbrev pub debug_files : DebugTask → List (List ℕ)
 debug_files task = image_files task.image.now ++ source_files task.source
 
--- the first of these lines that is no comment, or the empty line
-abbrev pub first_plain : List (List ℕ) → List ℕ
-first_plain [] = []
-first_plain (line ∷ lines) = if is_comment line then first_plain lines else line
-
--- a text is a log's where that line begins so, else a schedule
-unfoldable pub is_log : List ℕ → Bool
-is_log text = starts_with nat_eq (first_plain (lines_of text)) (codes "m161 ")
-
--- the events of a log, whose outcomes don't count, and what it says of its machine
-abbrev pub ListsLog : List ℕ → List Event → Option LoggedMachine → Type 0
-ListsLog text events None = ⊥
-ListsLog text events (Some logged) =
-    (entries : List Entry) × IsLogOf text logged entries × (events ≡ events_of entries)
-
--- the events of a text: those of a log; or those of a schedule, which says nothing of a machine
-abbrev pub ListsAs : Bool → List ℕ → List Event → Option LoggedMachine → Type 0
-ListsAs true text events logged = ListsLog text events logged
-ListsAs false text events logged = IsSchedule (lines_of text) events × (logged ≡ None)
-
-abbrev pub Lists : List ℕ → List Event → Option LoggedMachine → Type 0
-Lists text events logged = ListsAs (is_log text) text events logged
-
--- where the events come from: the text of a file; or a driven run from a state, whose keys are the
--- bytes of a file
+-- where the events come from, and what is said of their machine: the text of a file; or a driven run
+-- from a state, whose keys are the bytes of a file, and which says nothing of it
 abbrev pub ComesFrom :
-    Source → (List ℕ → Option (List ℕ)) → State → List Event → Option LoggedMachine → Type 0
-ComesFrom (source.File name) files s events logged =
-    OfText (files name.now) (λ text. Lists text events logged)
-ComesFrom (source.Driven drive) files s events logged =
+    Source → (List ℕ → Option (List ℕ)) → State → List Event → Option NamedMachine → Type 0
+ComesFrom (source.File name) files s events named =
+    OfText (files name.now) (λ text. Lists text events named)
+ComesFrom (source.Driven drive) files s events named =
     ((keys : List ℕ) × AreKeys drive.keys files keys
     × Chose (rules_of drive keys) drive.events s events)
-    × (logged ≡ None)
+    × (named ≡ None)
 
 -- a session's machine was booted from a file, and these are its events; a driven run begins with the
--- state in which the session begins
+-- state in which the session begins. What is named is what the events' text says of the machine: what
+-- isn't asked for is as it says
 pub record IsOpened
     (from : Source) (size : AskedSize) (files : List ℕ → Option (List ℕ)) (file : List ℕ)
     (booted : History) (events : List Event) : Type 0 where
-  pub logged : Option LoggedMachine
-  pub come : ComesFrom from files booted.state events logged
-  pub is_that : machine_fault size file logged ≡ None
-  pub boots : BootsTo file (asked_conf size logged) booted
+  pub named : Option NamedMachine
+  pub come : ComesFrom from files booted.state events named
+  pub is_that : machine_fault size file named ≡ None
+  pub boots : BootsTo file (asked_conf size named) booted
 
 -- the session of a task: its image's file was booted, and the image's names are those of addresses if
 -- that is asked for; the files have these bytes, and that of the image, as far as they are known
@@ -105,25 +79,18 @@ pub record IsDebug
   pub opens : Opens task files image booted events style
   pub ends : Ends (session_of booted style) events x
 
--- a text lists no events, by its first bad line; or memory was refused
-abbrev pub IsListFault : List ℕ → Fault → Type 0
-IsListFault text (Schedule n) = (is_log text ≡ false) × FirstBad AreScheduleLines text n
-IsListFault text (Log n) = (is_log text ≡ true) × IsFirstBadOfLog text n
-IsListFault text Memory = Unit {0}
-IsListFault text _ = ⊥
-
--- a file, in the machine that is asked for, isn't the one that a log names; or it is, and isn't
--- booted in that size; or memory was refused
-abbrev pub IsMachineFault : AskedSize → List ℕ → Option LoggedMachine → Fault → Type 0
-IsMachineFault size file logged LogMachine = machine_fault size file logged ≡ Some LogMachine
-IsMachineFault size file logged LogImage = machine_fault size file logged ≡ Some LogImage
-IsMachineFault size file logged Conf =
-    (machine_fault size file logged ≡ None) × (is_within_limits (asked_conf size logged) ≡ false)
-IsMachineFault size file logged (Image e) =
-    (machine_fault size file logged ≡ None)
-    × (boot_fault file (asked_conf size logged) ≡ Some (Load e))
-IsMachineFault size file logged Memory = Unit {0}
-IsMachineFault size file logged _ = ⊥
+-- a file, in the machine that is asked for, isn't the one that a log names; or no log names another
+-- one, and the file isn't booted in that machine; or memory was refused
+abbrev pub IsMachineFault : AskedSize → List ℕ → Option NamedMachine → Fault → Type 0
+IsMachineFault size file named LogMachine = machine_fault size file named ≡ Some LogMachine
+IsMachineFault size file named LogImage = machine_fault size file named ≡ Some LogImage
+IsMachineFault size file named Conf =
+    (machine_fault size file named ≡ None) × (is_within_limits (asked_conf size named) ≡ false)
+IsMachineFault size file named (Image e) =
+    (machine_fault size file named ≡ None)
+    × (boot_fault file (asked_conf size named) ≡ Some (Load e))
+IsMachineFault size file named Memory = Unit {0}
+IsMachineFault size file named _ = ⊥
 
 -- why a session isn't opened over an image's file. A text isn't read, or lists no events; or else
 -- the machine's fault. Or the keys of a driven run aren't read; or else the machine's fault
@@ -133,8 +100,8 @@ IsSourceFault (source.File name) size files file fault =
     IsFileUnread name (IsOfText (files name.now)) fault
     ⊎ OfText (files name.now) (λ text. IsListFault text fault)
     ⊎ OfText (files name.now) (λ text.
-    (events : List Event) × (logged : Option LoggedMachine) × Lists text events logged
-    × IsMachineFault size file logged fault)
+    (events : List Event) × (named : Option NamedMachine) × Lists text events named
+    × IsMachineFault size file named fault)
 IsSourceFault (source.Driven drive) size files file fault =
     IsKeysFile drive.keys fault ⊎ IsMachineFault size file None fault
 

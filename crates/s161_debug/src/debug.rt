@@ -22,8 +22,9 @@ use std::io::{Read, Write};
 /// line is `quit`. What a line prints is written and flushed before a byte of the next one is read.
 ///
 /// The events are those of a log, where the file's first line that is no comment begins with
-/// `m161 `; else of a schedule. The machine is the one that a log names: in its machine line, as far
-/// as its size isn't given, and in its first line the unit of links.
+/// `m161 `; else of a schedule. The machine is the one that is given; what isn't given of it is as
+/// that text says: a log in its machine line and its first line, a schedule in its machine line. A
+/// log that names another machine, or another image, is a fault.
 ///
 /// # Errors
 /// The first fault. What was written stays.

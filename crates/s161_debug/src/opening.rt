@@ -1,35 +1,33 @@
 //! The machine and the events of a session.
 
-ghost use Rattle.std.specs.Prelude.{◌≡◌, ◌⊎◌, ◌≤◌, [], ◌∷◌, false, true, IfErr, IfOk, None};
+ghost use Rattle.std.specs.Prelude.{◌≡◌, ◌⊎◌, [], ◌∷◌, IfErr, IfOk, None};
 ghost use Rattle.m161_order.specs.Order.{order_fault};
-ghost use Rattle.m161_text.specs.Lines.{lines_of};
 ghost use Rattle.s161_command.specs.Commands.{HasSourceLimits};
 ghost use Rattle.s161_base.specs.Asked.{AsksFor, option_files};
 ghost use Rattle.s161_base.specs.Faults.{BootsTo};
+ghost use Rattle.s161_base.specs.Listed.{IsListFault, Lists};
 ghost use Rattle.s161_base.specs.Machines.{asked_conf, machine_fault};
 ghost use Rattle.s161_base.specs.Samples.{image_file};
-ghost use Rattle.s161_base.specs.Texts.{IsLogFault, IsScheduleFault};
 ghost use Rattle.s161_command.specs.declared.task.Source.TheVariants as sources;
 ghost use Rattle.s161_run.specs.Driven.{rules_of};
 ghost use Rattle.s161_run.specs.Schedules.{Chose};
-ghost use Rattle.s161_debug.specs.Debugs.{debug_files, first_plain, is_log, source_files, IsEarlyFault, IsListFault, IsMachineFault, IsOpened, IsSourceFault, IsUnopened, Lists, ListsAs, Opens};
+ghost use Rattle.s161_debug.specs.Debugs.{debug_files, source_files, IsEarlyFault, IsMachineFault, IsOpened, IsSourceFault, IsUnopened, Opens};
 ghost use Rattle.s161_debug.specs.Gdb.{gdb_files, OpensRun};
 ghost use Rattle.s161_debug.specs.helpers.Debugs.{IsBootFault};
 
 use m161::Machine;
 use m161_dis::Style;
 use m161_machine::{Conf, Event};
-use m161_text::next_line;
 use s161_base::fault::Fault;
 use s161_base::files::FileSource;
 use s161_base::input::read_text;
-use s161_base::machines::{LoggedMachine, asked_conf, machine_fault};
+use s161_base::listed::list_text;
+use s161_base::machines::{NamedMachine, asked_conf, machine_fault};
 use s161_base::naming::style_of;
 use s161_base::sample::read_image;
-use s161_base::texts::{events_of, log_of};
 use s161_command::{AskedSize, DebugTask, Drive, GdbTask, Source};
 use s161_run::policy::read_keys;
-use s161_run::schedule::{chosen_events, events_made};
+use s161_run::schedule::chosen_events;
 use std::alloc::Global;
 
 /// The machine of a session, its events, and how it shows registers and addresses, twice.
@@ -48,11 +46,11 @@ pub(crate) struct Prepared {
     pub(crate) events: Vec<Event>,
 }
 
-// The events of a text, and what it says of its machine if it is a log.
+// The events of a text, one by one, and what it says of their machine, if it says something.
 #[derive(Drop)]
 struct Listed {
     events: Vec<Event>,
-    logged: Option<LoggedMachine>,
+    named: Option<NamedMachine>,
 }
 
 /// Reads the image and then the file of the events, or of the keys of the driven run that chooses
@@ -150,7 +148,7 @@ fn open_file<'a, F: FileSource>(
         (F.asked files.new) }
 {
     let text = read_text(alloc, files, name)?;
-    let listed = list_text(alloc, text.as_str())?;
+    let listed = list_events(alloc, text.as_str())?;
     open_listed(alloc, image, size, listed)
 }
 
@@ -181,15 +179,15 @@ fn open_listed<'a>(
     size: AskedSize,
     listed: Listed,
 ) -> Result<Prepared, Fault<'a>>
-    ensures ok { IfOk result (λ opened. (machine_fault size image.now listed.logged ≡ None)
-        × BootsTo image.now (asked_conf size listed.logged) opened.machine
+    ensures ok { IfOk result (λ opened. (machine_fault size image.now listed.named ≡ None)
+        × BootsTo image.now (asked_conf size listed.named) opened.machine
         × (opened.events.items ≡ listed.events.items)) }
-    ensures fault { IfErr result (IsMachineFault size image.now listed.logged) }
+    ensures fault { IfErr result (IsMachineFault size image.now listed.named) }
 {
-    if let Some(fault) = machine_fault(size, image, listed.logged) {
+    if let Some(fault) = machine_fault(size, image, listed.named) {
         return Err(fault);
     }
-    let machine = boot(alloc, image, asked_conf(size, listed.logged))?;
+    let machine = boot(alloc, image, asked_conf(size, listed.named))?;
     Ok(Prepared {
         machine,
         events: listed.events,
@@ -225,62 +223,15 @@ fn boot<'a>(alloc: Global, image: &[u8], conf: Conf) -> Result<Machine, Fault<'a
     Ok(machine)
 }
 
-// The events of a text, which is a log or a schedule.
-fn list_text<'a>(alloc: Global, text: &str) -> Result<Listed, Fault<'a>>
-    ensures ok { IfOk result (λ listed. Lists text.now listed.events.items listed.logged) }
+// The events of a text, which is a log or a schedule, and what it says of their machine.
+fn list_events<'a>(alloc: Global, text: &str) -> Result<Listed, Fault<'a>>
+    ensures ok { IfOk result (λ listed. Lists text.now listed.events.items listed.named) }
     ensures fault { IfErr result (IsListFault text.now) }
 {
-    if is_log(text) {
-        list_log(alloc, text)
-    } else {
-        list_schedule(alloc, text)
-    }
-}
-
-// Whether a text is a log, by its first line that is no comment.
-#[tactic(auto, unfolding(crate::specs::Debugs::is_log))]
-fn is_log(text: &str) -> bool
-    ensures { result ≡ is_log text.now }
-{
-    first_plain(text).as_bytes().starts_with(b"m161 ")
-}
-
-// The first line that is no comment; the empty line if there is none.
-fn first_plain(text: &str) -> &str
-    ensures { result.now ≡ first_plain (lines_of text.now) }
-{
-    let mut rest = text;
-    while let Some((line, more)) = next_line(rest) {
-        if !line.starts_with('#') {
-            return line;
-        }
-        rest = more;
-    }
-    ""
-}
-
-// The events of a log, and what it says of its machine.
-fn list_log<'a>(alloc: Global, text: &str) -> Result<Listed, Fault<'a>>
-    ensures ok { IfOk result (λ listed. ListsAs true text.now listed.events.items listed.logged) }
-    ensures fault { IfErr result (IsLogFault text.now) }
-{
-    let log = log_of(alloc, text)?;
-    let events = events_made(alloc, &log.entries)?;
+    let listed = list_text(alloc, text)?;
+    let events = listed.events.to_vec(alloc)?;
     Ok(Listed {
         events,
-        logged: Some(log.machine),
-    })
-}
-
-// The events of a schedule.
-fn list_schedule<'a>(alloc: Global, text: &str) -> Result<Listed, Fault<'a>>
-    ensures ok { IfOk result (λ listed. ListsAs false text.now listed.events.items listed.logged) }
-    ensures fault { IfErr result (IsScheduleFault text.now) }
-{
-    let events = events_of(alloc, text)?;
-    let events = events.to_vec(alloc)?;
-    Ok(Listed {
-        events,
-        logged: None,
+        named: listed.named,
     })
 }

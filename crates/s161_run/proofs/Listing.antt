@@ -4,6 +4,7 @@ use Rattle.m161_machine.specs.declared.conf.BootError.TheVariants.{Load}
 use Rattle.m161_machine.specs.declared.conf.Conf.{Conf as MachineConf}
 use Rattle.m161_machine.specs.declared.event.Event.{Event}
 use Rattle.m161_machine.specs.History.{BootsState, boot_fault}
+use Rattle.s161_command.specs.declared.task.AskedSize.{AskedSize}
 use Rattle.s161_command.specs.declared.task.RunTask.{RunTask}
 use Rattle.s161_base.proofs.Failing.{state_failed}
 use Rattle.s161_base.proofs.Listing.{named_fault}
@@ -16,13 +17,14 @@ use Rattle.s161_run.specs.Runs.{IsFaultOf}
 
 -- Why the events of a text aren't run.
 
-module _ (task : RunTask) (known input : Option (List ℕ)) (file text : List ℕ) (is_file : IfSome known (λ bytes. file ≡ bytes))
-    (is : IfSome input (λ bytes. text ≡ bytes)) (utf8 : IsText text) where
-  -- the text has a bad line
-  bad_line : (fault : Fault) → IsListFault text fault → IsFaultOf task known input fault
-  bad_line (Schedule n) h = (text, is, (utf8, h))
-  bad_line (Log n) h = (text, is, (utf8, h))
-  bad_line Memory h = tt
+-- a text lists no events: `P` is what is said of the fault
+module _ (P : Fault → Type 0) (asked : AskedSize) (file text : List ℕ)
+    (schedule : (n : ℕ) → IsListFault text (Schedule n) → P (Schedule n)) (log : (n : ℕ) → IsListFault text (Log n) → P (Log n)) (memory : P Memory)
+    (machine : ListsNone asked file text LogMachine → P LogMachine) (image : ListsNone asked file text LogImage → P LogImage) where
+  bad_line : (fault : Fault) → IsListFault text fault → P fault
+  bad_line (Schedule n) h = schedule n h
+  bad_line (Log n) h = log n h
+  bad_line Memory h = memory
   bad_line Conf h = absurd h
   bad_line (Image e) h = absurd h
   bad_line (File name why) h = absurd h
@@ -38,14 +40,17 @@ module _ (task : RunTask) (known input : Option (List ℕ)) (file text : List �
   bad_line Output h = absurd h
   bad_line (Source e) h = absurd h
 
-  -- or it is a log of another machine
+  pub unlisted_by : (fault : Fault) → ListsNone asked file text fault → P fault
+  unlisted_by fault (inl h) = bad_line fault h
+  unlisted_by fault (inr x) =
+      named_fault P asked file x.1 fault (λ e. machine (inr (x.0, x.1, x.2, e))) (λ e. image (inr (x.0, x.1, x.2, e))) x.3
+
+module _ (task : RunTask) (known input : Option (List ℕ)) (file text : List ℕ) (is_file : IfSome known (λ bytes. file ≡ bytes))
+    (is : IfSome input (λ bytes. text ≡ bytes)) (utf8 : IsText text) where
   pub unlisted : (fault : Fault) → ListsNone task.size file text fault → IsFaultOf task known input fault
-  unlisted fault (inl h) = bad_line fault h
-  unlisted fault (inr x) =
-      named_fault (IsFaultOf task known input) task.size file x.1 fault
-      (λ e. (file, is_file, (text, is, (utf8, inr (x.0, x.1, x.2, e)))))
-      (λ e. (file, is_file, (text, is, (utf8, inr (x.0, x.1, x.2, e)))))
-      x.3
+  unlisted fault h =
+      unlisted_by (IsFaultOf task known input) task.size file text (λ n bad. (text, is, (utf8, bad))) (λ n bad. (text, is, (utf8, bad))) tt
+      (λ none. (file, is_file, (text, is, (utf8, none)))) (λ none. (file, is_file, (text, is, (utf8, none)))) fault h
 
   -- it lists events, and the image isn't booted
   pub unbooted : (events : List Event) (conf : MachineConf) (e : BootError) → ListsFor task.size file text events conf →

@@ -18,17 +18,15 @@ use Rattle.m161_audit.specs.Watch.{AreGood, IsBad}
 use Rattle.m161_audit.specs.WatchText.{AreWatchLines, AreWatches}
 use Rattle.m161_text.specs.Lines.{with_line_end, FirstBad, lines_of}
 use Rattle.m161_text.specs.Parts.{◌␣◌, word_text}
-use Rattle.m161_steplog.specs.Schedule.{AreScheduleLines, IsSchedule}
 use Rattle.s161_command.specs.declared.task.FilesTask.{FilesTask}
 use Rattle.s161_base.specs.Asked.{image_files}
 use Rattle.s161_base.specs.declared.fault.Fault.{Fault}
-use Rattle.s161_base.specs.declared.fault.Fault.TheVariants.{Conf, File, Image, Input, Memory, Schedule, Watch, Watches}
-use Rattle.s161_base.specs.Known.{IsText, OfKnown, OfText}
+use Rattle.s161_base.specs.declared.fault.Fault.TheVariants.{Conf, File, Image, Input, Log, LogImage, LogMachine, Memory, Schedule, Watch, Watches}
+use Rattle.s161_base.specs.Known.{IsText, OfText}
+use Rattle.s161_base.specs.Listed.{IsListFault, ListsFor, OfListed, OfUnlisted}
 use Rattle.s161_base.specs.Reading.{IsOfBytes, IsOfText}
 use Rattle.s161_base.specs.Faults.{fault_of_boot}
-use Rattle.s161_base.specs.Texts.{HasSchedule}
 use Rattle.s161_base.specs.Samples.{IsFileName}
-use Rattle.s161_base.specs.Sizes.{conf_of}
 
 -- The output and the exit status of `audit`.
 
@@ -88,13 +86,14 @@ pub record IsAudited
   pub is_input : IfSome input (λ bytes. schedule ≡ bytes)
   pub is_text : IsText schedule
   pub events : List Event
-  pub is_schedule : IsSchedule (lines_of schedule) events
+  pub conf : MachineConf
+  pub lists : ListsFor task.size file schedule events conf
   pub finding : Finding
   pub audits :
-      Audits file (conf_of task.size) (boot_fault file (conf_of task.size)) events watched (Ok finding)
+      Audits file conf (boot_fault file conf) events watched (Ok finding)
   pub text_is : text ≡ with_line_end (finding_text finding)
   pub refused : Option Refusals
-  pub are_refused : AreRefused file (conf_of task.size) events finding refused
+  pub are_refused : AreRefused file conf events finding refused
   pub told_is : told ≡ note_text refused
   pub status_is : status ≡ status_of_finding finding
 
@@ -118,9 +117,9 @@ abbrev pub HasWatches : Option (List ℕ) → Type 0
 HasWatches watches = OfWatches watches (λ watched. Unit {0})
 
 -- what a fault that ends an audit says of its inputs: of a file, that it is the image's or the
--- watches'; of the watches or the schedule, its first bad line; of the configuration, the image or a
--- watch, that the watches and the schedule had no fault. File, Input and Memory hold whatever else is
--- at fault
+-- watches'; of the watches, the schedule or the log, its first bad line; then, that the log names another
+-- machine or another image; of the configuration, the image or a watch, that the watches and the schedule
+-- had no fault. File, Input and Memory hold whatever else is at fault
 abbrev pub IsAuditFault :
     FilesTask → Option (List ℕ) → Option (List ℕ) → Option (List ℕ) → Fault → Type 0
 IsAuditFault task image watches input (File name why) =
@@ -131,14 +130,20 @@ IsAuditFault task image watches input Memory = Unit {0}
 IsAuditFault task image watches input (Watches n) =
     OfText watches (λ text. FirstBad AreWatchLines text n)
 IsAuditFault task image watches input (Schedule n) =
-    HasWatches watches × OfText input (λ text. FirstBad AreScheduleLines text n)
+    HasWatches watches × OfText input (λ text. IsListFault text (Schedule n))
+IsAuditFault task image watches input (Log n) =
+    HasWatches watches × OfText input (λ text. IsListFault text (Log n))
+IsAuditFault task image watches input LogMachine =
+    HasWatches watches × OfUnlisted task.size image input LogMachine
+IsAuditFault task image watches input LogImage =
+    HasWatches watches × OfUnlisted task.size image input LogImage
 IsAuditFault task image watches input Conf =
-    HasWatches watches × HasSchedule input × (is_within_limits (conf_of task.size) ≡ false)
+    HasWatches watches
+    × OfListed task.size image input (λ file conf. is_within_limits conf ≡ false)
 IsAuditFault task image watches input (Image e) =
-    HasWatches watches × HasSchedule input
-    × OfKnown image (λ file. boot_fault file (conf_of task.size) ≡ Some (Load e))
+    HasWatches watches
+    × OfListed task.size image input (λ file conf. boot_fault file conf ≡ Some (Load e))
 IsAuditFault task image watches input (Watch k) =
-    OfWatches watches (λ watched.
-    IsBad task.size.ram watched k × AreGood task.size.ram watched k)
-    × HasSchedule input × OfKnown image (λ file. boot_fault file (conf_of task.size) ≡ None)
+    OfWatches watches (λ watched. OfListed task.size image input (λ file conf.
+    (boot_fault file conf ≡ None) × IsBad conf.ram watched k × AreGood conf.ram watched k))
 IsAuditFault task image watches input _ = ⊥

@@ -22,6 +22,7 @@ use Rattle.s161_command.specs.declared.task.SearchTask.{SearchTask}
 use Rattle.s161_search.specs.declared.told.SearchVerdict.TheVariants as told
 use Rattle.s161_search.specs.Given.{Given, criteria_of}
 use Rattle.s161_search.specs.Searches.{IsGiven}
+use Rattle.s161_command.specs.declared.task.Size.{Size}
 use Rattle.s161_search.specs.Texts.{clean_text, found_text}
 
 -- The output and the exit status of `explore`.
@@ -61,23 +62,23 @@ states_text n = codes "# states" ␣ decimal n
 abbrev pub open_text : ℕ → ℕ → List ℕ
 open_text limit size = codes "open" ␣ decimal limit ␣ decimal size
 
--- what is printed of an answer, with the exit status, where there are so many processors, these keys, and
--- at most so many states
+-- what is printed of an answer, with the exit status, for a machine of this size, these keys, and at most
+-- so many states
 abbrev pub PrintsAnswer :
-    ℕ → ℕ → List ℕ → Answer Verdict Unknown → List ℕ → ℕ → Type 0
-PrintsAnswer processors limit keys (Clean states) text status =
+    Size → ℕ → List ℕ → Answer Verdict Unknown → List ℕ → ℕ → Type 0
+PrintsAnswer size limit keys (Clean states) text status =
     (status ≡ 0) × (text ≡ with_line_end (clean_text states 0))
-PrintsAnswer processors limit keys (Found events what states) text status =
+PrintsAnswer size limit keys (Found events what states) text status =
     (status ≡ 4)
     × (text
-    ≡ found_text (states_text states) (told.Run (at_place (length events.items - 1) what))
-    (events_named processors keys 0 events.items))
-PrintsAnswer processors limit keys (Hung events states) text status =
+    ≡ found_text size (states_text states) (told.Run (at_place (length events.items - 1) what))
+    (events_named size.processors keys 0 events.items))
+PrintsAnswer size limit keys (Hung events states) text status =
     (status ≡ 4)
-    × (text ≡ found_text (states_text states) told.Hung (events_named processors keys 0 events.items))
-PrintsAnswer processors limit keys (Open size) text status =
-    (status ≡ 6) × (text ≡ with_line_end (open_text limit size))
-PrintsAnswer processors limit keys (Ended reason) text status = ⊥
+    × (text ≡ found_text size (states_text states) told.Hung (events_named size.processors keys 0 events.items))
+PrintsAnswer size limit keys (Open most) text status =
+    (status ≡ 6) × (text ≡ with_line_end (open_text limit most))
+PrintsAnswer size limit keys (Ended reason) text status = ⊥
 
 -- what a search would read is explored: from the state at boot, with so much of time being known as Steps
 -- read, the answer says what it says of all lists of events
@@ -90,7 +91,7 @@ pub record PrintsExplored (search : SearchTask) (limit : ℕ) (given : Given) (t
   pub learnt : IsLearnt (question_of boot (criteria_of given) known)
   pub answer : Answer Verdict Unknown
   pub answers : Answers (rules_of (question_of boot (criteria_of given) known)) limit answer
-  pub prints : PrintsAnswer search.size.processors limit given.keys answer text status
+  pub prints : PrintsAnswer search.size limit given.keys answer text status
 
 -- the same behind reading, with these words for the addresses of `--never`
 abbrev pub IsExploredBy :

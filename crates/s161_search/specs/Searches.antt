@@ -100,7 +100,7 @@ pub record IsFound (task : SearchTask) (given : Given) (text : List ℕ) : Type 
   pub final : Told
   pub is_told : IsRunTold run.is_cut task given events (Some final)
   pub same_kind : kind_number final.verdict ≡ kind_number told.verdict
-  pub text_is : text ≡ found_text (seed_text (seed_at task.drive.order place)) final.verdict events
+  pub text_is : text ≡ found_text task.size (seed_text (seed_at task.drive.order place)) final.verdict events
 
 -- none of the runs goes wrong
 abbrev pub IsClean : SearchTask → Given → List ℕ → Type 0
@@ -121,7 +121,7 @@ pub record IsFoundBy
   pub final : Told
   pub is_told : IsRunTold run.is_cut task given events (Some final)
   pub same_kind : kind_number final.verdict ≡ kind_number told.verdict
-  pub text_is : text ≡ found_text (delays_text numbers) final.verdict events
+  pub text_is : text ≡ found_text task.size (delays_text numbers) final.verdict events
 
 -- none of the runs of a class goes wrong
 abbrev pub IsCleanBy : SearchTask → Given → ℕ → Class → List ℕ → Type 0

@@ -18,9 +18,8 @@ use s161_base::fault::Fault;
 use s161_base::files::FileSource;
 use s161_base::finished::Finished;
 use s161_base::input::{read_input, read_text};
+use s161_base::listed::{Planned, plan_run};
 use s161_base::sample::read_image;
-use s161_base::sizes::conf_of;
-use s161_base::texts::events_of;
 use s161_command::FilesTask;
 use std::alloc::{AllocError, Global};
 use std::fmt;
@@ -118,8 +117,8 @@ impl fmt::Display for ShownNote {
     }
 }
 
-/// Reads the image, the watches and then the schedule, boots the image, and makes the schedule's
-/// events up to the first stale use. What is to be said on standard error is put into `said`: a note, if
+/// Reads the image, the watches and then the schedule or the log, boots the image, in the machine that is
+/// asked for over that text, and makes its events up to the first stale use. What is to be said on standard error is put into `said`: a note, if
 /// events were refused.
 ///
 /// # Errors
@@ -149,8 +148,8 @@ pub fn audit<'a, F: FileSource, I: Read>(
     let text = read_text(alloc, files, task.text)?;
     let schedule = read_input(alloc, input)?;
     let watches = watches_of(alloc, text.as_str())?;
-    let events = events_of(alloc, schedule.as_str())?;
-    let conf = conf_of(task.size);
+    let run = plan_run(alloc, task.size, &file, schedule.as_str())?;
+    let Planned { events, conf } = run;
     let finding = match audit_events::<Tlb, Console>(alloc, &file, conf, &events, &watches) {
         Ok(finding) => finding,
         Err(error) => return Err(fault_of_audit(error)),

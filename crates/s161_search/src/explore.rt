@@ -137,7 +137,7 @@ fn explore_from<'a>(
     let found = explore_machine(alloc, &core, &goal, limit)?;
     Ok(print_answer(
         alloc,
-        search.size.processors,
+        search.size,
         limit,
         &inputs.keys,
         found.answer,

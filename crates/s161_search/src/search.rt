@@ -181,7 +181,7 @@ fn found_text(
         wrong.told,
         wrong.run.events,
     )?;
-    let text = found_lines(alloc, line, printed.verdict, &printed.events)?;
+    let text = found_lines(alloc, task.size, line, printed.verdict, &printed.events)?;
     Ok(text.into_bytes())
 }
 
@@ -250,6 +250,6 @@ fn listed_text(
         wrong.told,
         wrong.run.events,
     )?;
-    let text = found_lines(alloc, line, printed.verdict, &printed.events)?;
+    let text = found_lines(alloc, task.size, line, printed.verdict, &printed.events)?;
     Ok(text.into_bytes())
 }

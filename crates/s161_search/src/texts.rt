@@ -12,6 +12,8 @@ use m161_judge::Verdict;
 use m161_machine::Event;
 use m161_steplog::write_schedule;
 use m161_text::Word;
+use s161_base::sizes::line_of_size;
+use s161_command::Size;
 use s161_run::events::ShownConflict;
 use std::alloc::{AllocError, Global};
 use std::fmt;
@@ -177,21 +179,25 @@ fn verdict_line(alloc: Global, verdict: SearchVerdict) -> Result<String, AllocEr
     format!(in alloc; "# {shown}\n")
 }
 
-/// The schedule of a run that goes wrong, behind the line that tells the run, and its verdict.
+/// The schedule of a run that goes wrong, of a machine of this size, behind the machine line, the line that
+/// tells the run, and that of its verdict.
 ///
 /// # Errors
 /// Memory was refused.
 pub(crate) fn found_lines(
     alloc: Global,
-    mut text: String,
+    size: Size,
+    line: String,
     verdict: SearchVerdict,
     events: &[Event],
 ) -> Result<String, AllocError>
-    ensures { IfOk result (λ lines. (run : List ℕ) → string_bytes text ≡ with_line_end run
-        → string_bytes lines ≡ found_text run verdict events.now) }
+    ensures { IfOk result (λ lines. (run : List ℕ) → string_bytes line ≡ with_line_end run
+        → string_bytes lines ≡ found_text size run verdict events.now) }
 {
+    let mut text = line_of_size(alloc, size)?;
     let verdict = verdict_line(alloc, verdict)?;
     let schedule = write_schedule(alloc, events)?;
+    text.push_str(line.as_str())?;
     text.push_str(verdict.as_str())?;
     text.push_str(schedule.as_str())?;
     Ok(text)

@@ -9,14 +9,14 @@ use Rattle.m161_machine.specs.declared.event.Event.{Event}
 use Rattle.m161_machine.specs.declared.conf.Conf.{Conf}
 use Rattle.m161_machine.specs.History.{Boots, BootsState, History, IsBootState, boot_fault}
 use Rattle.m161_machine.specs.State.{State}
-use Rattle.m161_steplog.specs.Schedule.{IsSchedule}
-use Rattle.m161_text.specs.Lines.{lines_of, text_of, with_line_end}
+use Rattle.m161_text.specs.Lines.{text_of, with_line_end}
 use Rattle.s161_base.proofs.Failing.{state_failed}
 use Rattle.s161_base.specs.Faults.{BootsIn, fault_of_boot}
 use Rattle.s161_base.specs.Known.{OfText}
-use Rattle.s161_base.specs.Sizes.{conf_of}
+use Rattle.s161_base.specs.Listed.{ListsFor}
+use Rattle.s161_base.specs.Machines.{conf_asked}
+use Rattle.s161_run.proofs.Listing.{unbooted}
 use Rattle.s161_base.specs.Streams.{AppendsSome, streams}
-use Rattle.s161_base.specs.Texts.{HasSchedule}
 use Rattle.s161_base.specs.declared.fault.Fault.{Fault}
 use Rattle.s161_base.specs.declared.fault.Fault.TheVariants.{Memory}
 use Rattle.s161_command.specs.declared.drive.Drive.{Drive}
@@ -30,7 +30,7 @@ use Rattle.s161_trace.specs.declared.lines.Lines.{Lines}
 use Rattle.s161_trace.specs.declared.filter.LineFilter.{LineFilter}
 use Rattle.s161_trace.specs.declared.shared.SharedWords.{SharedWords}
 use Rattle.s161_trace.specs.Shared.{is_shared}
-use Rattle.s161_trace.specs.Traces.{Begins, BootsFor, HasInputs, IsAskedWord, IsEarlyFault, IsTraceFault, IsTraced, IsUnread, IsWhole, Runs, driven_of, lines_text, run_of, shared_words, touches_in, trace_text}
+use Rattle.s161_trace.specs.Traces.{Begins, BootsFor, HasInputs, IsAskedWord, IsConfOf, IsEarlyFault, IsTraceFault, IsTraced, IsUnread, IsWhole, ListsIn, Runs, driven_of, lines_text, run_of, shared_words, touches_in, trace_text}
 use Rattle.s161_trace.specs.helpers.Booted.{FailsRun, IsFilter, IsSharedIf, IsUnasked, IsWholeFilter, PrintsRun, with_shared}
 use Rattle.s161_trace.specs.helpers.Driven.{DrivesAll, DrivesSome, PrintsDrive}
 use Rattle.s161_trace.specs.helpers.Printing.{FailsToPrint, FailsToPrintAll, FailsToPut, FindsShared, IsNew, Prints, PrintsAll, lines_from, run_text, filter_of}
@@ -120,9 +120,8 @@ boots_as : (file : List ℕ) (conf : Conf) (fault : Option BootError) (m : Histo
 boots_as file conf (Some first) m h = absurd h
 boots_as file conf None m h = (refl, record { start = m.start; conf_is = h.conf_is; image = h.image; state_is = h.state_is })
 
-pub booted_so : (task : TraceTask) (file : List ℕ) (conf : Conf) (m : History) → conf ≡ conf_of task.size →
-    Boots file conf (boot_fault file conf) (Ok m) → BootsIn file (conf_of task.size) m.state
-booted_so task file conf m is h = subst (λ c. BootsIn file c m.state) is (boots_as file conf (boot_fault file conf) m h)
+pub booted_so : (file : List ℕ) (conf : Conf) (m : History) → Boots file conf (boot_fault file conf) (Ok m) → BootsIn file conf m.state
+booted_so file conf m h = boots_as file conf (boot_fault file conf) m h
 
 -- and why not
 fails_as : (file : List ℕ) (conf : Conf) (fault : Option BootError) (e : BootError) → Boots file conf fault (Err e) →
@@ -131,21 +130,20 @@ fails_as file conf (Some first) e h = h
 fails_as file conf None e h = h
 
 -- runs from the boot on
-module _ (task : TraceTask) (file : List ℕ) (IsSome : State → List Entry → State → Type 0) (IsAll : State → List Entry → RunStop → State → Type 0)
+module _ (task : TraceTask) (conf : Conf) (file : List ℕ) (IsSome : State → List Entry → State → Type 0) (IsAll : State → List Entry → RunStop → State → Type 0)
     (a : Option (List ℕ)) where
-  pub not_booted : (conf : Conf) (e : BootError) (fault : Fault) → conf ≡ conf_of task.size → Boots file conf (boot_fault file conf) (Err e) →
-      fault ≡ fault_of_boot e → FailsRun task file IsSome IsAll a a fault
-  not_booted conf e fault is answer fault_is =
-      let here = subst (λ c. BootsState file c (boot_fault file c) (Err e)) is (fails_as file conf (boot_fault file conf) e answer) in
-      inl (record { error = e; answer = here; fault_is = fault_is; same = refl })
+  pub not_booted : (e : BootError) (fault : Fault) → Boots file conf (boot_fault file conf) (Err e) → fault ≡ fault_of_boot e →
+      FailsRun task conf file IsSome IsAll a a fault
+  not_booted e fault answer fault_is =
+      inl (record { error = e; answer = fails_as file conf (boot_fault file conf) e answer; fault_is = fault_is; same = refl })
 
-  module _ (s : State) (boots : BootsIn file (conf_of task.size) s) where
-    pub without_filter : (fault : Fault) → IsUnasked task file fault → FailsRun task file IsSome IsAll a a fault
+  module _ (s : State) (boots : BootsIn file conf s) where
+    pub without_filter : (fault : Fault) → IsUnasked task conf.ram file fault → FailsRun task conf file IsSome IsAll a a fault
     without_filter fault h = inr (inl (record { booted = s; boots = boots; is_unasked = h; same = refl }))
 
-    module _ (w : LineFilter) (is : IsWholeFilter task file s IsAll w) (t : State) (c : Option (List ℕ)) (r : Result RunStop Fault) where
-      pub run_prints : IfOk r (PrintsAll w s IsAll t a c) → IfOk r (PrintsRun task file IsAll a c)
-      run_prints = IfOk-weaker r (PrintsAll w s IsAll t a c) (PrintsRun task file IsAll a c) (λ stop h. record {
+    module _ (w : LineFilter) (is : IsWholeFilter task conf.ram file s IsAll w) (t : State) (c : Option (List ℕ)) (r : Result RunStop Fault) where
+      pub run_prints : IfOk r (PrintsAll w s IsAll t a c) → IfOk r (PrintsRun task conf file IsAll a c)
+      run_prints = IfOk-weaker r (PrintsAll w s IsAll t a c) (PrintsRun task conf file IsAll a c) (λ stop h. record {
         booted = s;
         boots = boots;
         filter = w;
@@ -154,8 +152,8 @@ module _ (task : TraceTask) (file : List ℕ) (IsSome : State → List Entry →
         prints = h;
       })
 
-      pub run_fails : IfErr r (FailsToPrintAll w s IsSome IsAll t a c) → IfErr r (FailsRun task file IsSome IsAll a c)
-      run_fails = IfErr-weaker r (FailsToPrintAll w s IsSome IsAll t a c) (FailsRun task file IsSome IsAll a c) (λ fault h. inr (inr (record {
+      pub run_fails : IfErr r (FailsToPrintAll w s IsSome IsAll t a c) → IfErr r (FailsRun task conf file IsSome IsAll a c)
+      run_fails = IfErr-weaker r (FailsToPrintAll w s IsSome IsAll t a c) (FailsRun task conf file IsSome IsAll a c) (λ fault h. inr (inr (record {
         booted = s;
         boots = boots;
         filter = w;
@@ -165,44 +163,44 @@ module _ (task : TraceTask) (file : List ℕ) (IsSome : State → List Entry →
       })))
 
 -- a filter with the words that are shared
-pub shared_so : (task : TraceTask) (file : List ℕ) (s : State) (IsAll : State → List Entry → RunStop → State → Type 0) (v w : LineFilter) → IsFilter task file v →
-    w ≡ with_shared v w.shared → IsSharedIf task s IsAll w.shared → IsWholeFilter task file s IsAll w
-shared_so task file s IsAll v w is with shared =
+pub shared_so : (task : TraceTask) (ram : ℕ) (file : List ℕ) (s : State) (IsAll : State → List Entry → RunStop → State → Type 0) (v w : LineFilter) → IsFilter task ram file v →
+    w ≡ with_shared v w.shared → IsSharedIf task ram s IsAll w.shared → IsWholeFilter task ram file s IsAll w
+shared_so task ram file s IsAll v w is with shared =
     let same : w.touches ≡ v.touches = ap (λ (u : LineFilter). u.touches) with in (
-      subst (IsAskedWord task file) (sym same) is.0,
+      subst (IsAskedWord task ram file) (sym same) is.0,
       shared,
       with ∙ ap (λ u. with_shared u w.shared) is.1 ∙ ap (λ touches. filter_of task file touches w.shared) (sym same),
     )
 
 -- A task's. The lines that are asked for are those that the filter leaves.
 
-module _ (task : TraceTask) (file : List ℕ) (s : State) (IsAll : State → List Entry → RunStop → State → Type 0) where
+module _ (task : TraceTask) (ram : ℕ) (file : List ℕ) (s : State) (IsAll : State → List Entry → RunStop → State → Type 0) where
   -- the entries of the whole run, if the words that are shared are asked for
-  abbrev whole_of : (shared : Option SharedWords) → IsSharedIf task s IsAll shared → List Entry
+  abbrev whole_of : (shared : Option SharedWords) → IsSharedIf task ram s IsAll shared → List Entry
   whole_of None h = []
   whole_of (Some words) h = h.1.whole
 
-  are_shared : (shared : Option SharedWords) (h : IsSharedIf task s IsAll shared) → option_map is_marked shared ≡ shared_words task s (whole_of shared h)
+  are_shared : (shared : Option SharedWords) (h : IsSharedIf task ram s IsAll shared) → option_map is_marked shared ≡ shared_words task ram s (whole_of shared h)
   are_shared None h =
-      ap (λ (b : Bool). if b then Some (is_shared (task.size.ram / 4) (touches_in task.from task.count 0 s [])) else None) (sym h)
+      ap (λ (b : Bool). if b then Some (is_shared (ram / 4) (touches_in task.from task.count 0 s [])) else None) (sym h)
   are_shared (Some words) h =
       let touches = touches_in task.from task.count 0 s h.1.whole in
-      ap (λ f. Some f) (marks_tell words (task.size.ram / 4) touches h.1.marks_are)
-      ∙ ap (λ (b : Bool). if b then Some (is_shared (task.size.ram / 4) touches) else None) (sym h.0)
+      ap (λ f. Some f) (marks_tell words (ram / 4) touches h.1.marks_are)
+      ∙ ap (λ (b : Bool). if b then Some (is_shared (ram / 4) touches) else None) (sym h.0)
 
-  is_run : (shared : Option SharedWords) (h : IsSharedIf task s IsAll shared) → task.shared ≡ true →
+  is_run : (shared : Option SharedWords) (h : IsSharedIf task ram s IsAll shared) → task.shared ≡ true →
       (stop : RunStop) × (t : State) × IsAll s (whole_of shared h) stop t
   is_run None h asked = absurd (let bad : false ≡ true = sym h ∙ asked in cc)
   is_run (Some words) h asked = (h.1.stop, h.1.state, h.1.is_all)
 
-  module _ (w : LineFilter) (is : IsWholeFilter task file s IsAll w) (entries : List Entry) where
-    shown : text_of (lines_from w 0 s entries) ≡ lines_text task file w.touches (shared_words task s (whole_of w.shared is.1)) s entries
+  module _ (w : LineFilter) (is : IsWholeFilter task ram file s IsAll w) (entries : List Entry) where
+    shown : text_of (lines_from w 0 s entries) ≡ lines_text task file w.touches (shared_words task ram s (whole_of w.shared is.1)) s entries
     shown =
         ap (λ v. text_of (lines_from v 0 s entries)) is.2
         ∙ ap (λ words. lines_text task file w.touches words s entries) (are_shared w.shared is.1)
 
     shown_whole : (stop : RunStop) →
-        run_text w s entries stop ≡ trace_text task file w.touches (shared_words task s (whole_of w.shared is.1)) s entries stop
+        run_text w s entries stop ≡ trace_text task file w.touches (shared_words task ram s (whole_of w.shared is.1)) s entries stop
     shown_whole stop = ap (λ text. text ++ with_line_end (stop_line stop)) shown
 
 -- a want of memory can always be
@@ -222,20 +220,27 @@ module _ (task : TraceTask) (drive : Option Drive) (drive_is : task.drive ≡ dr
     why = inl (inl (subst (λ d. IsEarlyFault d task known input fault) (sym drive_is) h), same);
   }
 
-  module _ (file : List ℕ) (is_file : IfSome known (λ bytes. file ≡ bytes)) (IsAll : State → List Entry → RunStop → State → Type 0)
+  module _ (file : List ℕ) (is_file : IfSome known (λ bytes. file ≡ bytes)) (conf : Conf) (is_conf : IsConfOf drive task.size file input conf)
+      (IsAll : State → List Entry → RunStop → State → Type 0)
       (runs : (s t : State) (entries : List Entry) (stop : RunStop) → IsAll s entries stop t → Runs drive files input s entries stop t) where
-    abbrev boots_so : (s : State) → BootsIn file (conf_of task.size) s → BootsFor task known s
-    boots_so s h = record { file = file; is_file = is_file; boots = h }
+    abbrev boots_so : (s : State) → BootsIn file conf s → BootsFor task known input s
+    boots_so s h = record {
+      file = file;
+      is_file = is_file;
+      conf = conf;
+      is_conf = subst (λ d. IsConfOf d task.size file input conf) (sym drive_is) is_conf;
+      boots = h;
+    }
 
     runs_so : (s t : State) (entries : List Entry) (stop : RunStop) → IsAll s entries stop t → Runs task.drive files input s entries stop t
     runs_so s t entries stop h = subst (λ d. Runs d files input s entries stop t) (sym drive_is) (runs s t entries stop h)
 
-    whole_so : (s : State) (shared : Option SharedWords) (h : IsSharedIf task s IsAll shared) → IsWhole task files input s (whole_of task file s IsAll shared h)
+    whole_so : (s : State) (shared : Option SharedWords) (h : IsSharedIf task conf.ram s IsAll shared) → IsWhole task files input s (whole_of task conf.ram file s IsAll shared h)
     whole_so s shared h = λ asked.
-        let run = is_run task file s IsAll shared h asked in
-        (run.0, run.1, runs_so s run.1 (whole_of task file s IsAll shared h) run.0 run.2)
+        let run = is_run task conf.ram file s IsAll shared h asked in
+        (run.0, run.1, runs_so s run.1 (whole_of task conf.ram file s IsAll shared h) run.0 run.2)
 
-    task_traced : (stop : RunStop) → PrintsRun task file IsAll a c stop → IsTraced task files known (streams input left a c) stop
+    task_traced : (stop : RunStop) → PrintsRun task conf file IsAll a c stop → IsTraced task files known (streams input left a c) stop
     task_traced stop h =
         let entries = h.prints.0 in
         record {
@@ -243,36 +248,36 @@ module _ (task : TraceTask) (drive : Option Drive) (drive_is : task.drive ≡ dr
           boots = boots_so h.booted h.boots;
           touches = h.filter.touches;
           is_asked = h.is_filter.0;
-          whole = whole_of task file h.booted IsAll h.filter.shared h.is_filter.1;
+          whole = whole_of task conf.ram file h.booted IsAll h.filter.shared h.is_filter.1;
           is_whole = whole_so h.booted h.filter.shared h.is_filter.1;
           entries = entries;
           state = h.state;
           runs = runs_so h.booted h.state entries stop h.prints.1;
           is_unread = is_unread;
-          written = subst (Appends a c) (shown_whole task file h.booted IsAll h.filter h.is_filter entries stop) h.prints.2;
+          written = subst (Appends a c) (shown_whole task conf.ram file h.booted IsAll h.filter h.is_filter entries stop) h.prints.2;
         }
 
     module _ (IsSome : State → List Entry → State → Type 0)
         (begins : (s t : State) (entries : List Entry) → IsSome s entries t → Begins drive files input s entries t)
-        (unbooted : (e : BootError) → BootsState file (conf_of task.size) (boot_fault file (conf_of task.size)) (Err e) →
+        (unbooted : (e : BootError) → BootsState file conf (boot_fault file conf) (Err e) →
         IsEarlyFault drive task known input (fault_of_boot e))
         (has_inputs : HasInputs drive files input) where
-      some_written : (w : LineFilter) (s t : State) (is : IsWholeFilter task file s IsAll w) (entries : List Entry) →
+      some_written : (w : LineFilter) (s t : State) (is : IsWholeFilter task conf.ram file s IsAll w) (entries : List Entry) →
           (IsSome s entries t × AppendsSome a c (text_of (lines_from w 0 s entries)))
           ⊎ ((stop : RunStop) × IsAll s entries stop t × AppendsSome a c (run_text w s entries stop)) →
           (Begins task.drive files input s entries t
-          × AppendsSome a c (lines_text task file w.touches (shared_words task s (whole_of task file s IsAll w.shared is.1)) s entries))
+          × AppendsSome a c (lines_text task file w.touches (shared_words task conf.ram s (whole_of task conf.ram file s IsAll w.shared is.1)) s entries))
           ⊎ ((stop : RunStop) × Runs task.drive files input s entries stop t
-          × AppendsSome a c (trace_text task file w.touches (shared_words task s (whole_of task file s IsAll w.shared is.1)) s entries stop))
+          × AppendsSome a c (trace_text task file w.touches (shared_words task conf.ram s (whole_of task conf.ram file s IsAll w.shared is.1)) s entries stop))
       some_written w s t is entries (inl x) =
           inl (
             subst (λ d. Begins d files input s entries t) (sym drive_is) (begins s t entries x.0),
-            subst (AppendsSome a c) (shown task file s IsAll w is entries) x.1,
+            subst (AppendsSome a c) (shown task conf.ram file s IsAll w is entries) x.1,
           )
       some_written w s t is entries (inr x) =
-          inr (x.0, runs_so s t entries x.0 x.1, subst (AppendsSome a c) (shown_whole task file s IsAll w is entries x.0) x.2)
+          inr (x.0, runs_so s t entries x.0 x.1, subst (AppendsSome a c) (shown_whole task conf.ram file s IsAll w is entries x.0) x.2)
 
-      in_run : (w : LineFilter) (s t : State) → BootsIn file (conf_of task.size) s → IsWholeFilter task file s IsAll w → (fault : Fault) →
+      in_run : (w : LineFilter) (s t : State) → BootsIn file conf s → IsWholeFilter task conf.ram file s IsAll w → (fault : Fault) →
           FailsToPrintAll w s IsSome IsAll t a c fault → IsTraceFault task files known (streams input left a c) fault
       in_run w s t boots is fault (inl h) = early fault (subst (IsEarlyFault drive task known input) (sym h.0) (no_memory drive task known input)) h.1
       in_run w s t boots is fault (inr h) = record {
@@ -283,7 +288,7 @@ module _ (task : TraceTask) (drive : Option Drive) (drive_is : task.drive ≡ dr
           boots = boots_so s boots;
           touches = w.touches;
           is_asked = is.0;
-          whole = whole_of task file s IsAll w.shared is.1;
+          whole = whole_of task conf.ram file s IsAll w.shared is.1;
           is_whole = whole_so s w.shared is.1;
           entries = h.1.0;
           state = t;
@@ -292,7 +297,7 @@ module _ (task : TraceTask) (drive : Option Drive) (drive_is : task.drive ≡ dr
       }
 
       -- without a word
-      no_word : (s : State) → BootsIn file (conf_of task.size) s → (fault : Fault) → IsUnasked task file fault → c ≡ a →
+      no_word : (s : State) → BootsIn file conf s → (fault : Fault) → IsUnasked task conf.ram file fault → c ≡ a →
           IsTraceFault task files known (streams input left a c) fault
       no_word s boots fault (inl h) same = early fault (subst (IsEarlyFault drive task known input) (sym h) (no_memory drive task known input)) same
       no_word s boots fault (inr h) same = record {
@@ -311,7 +316,7 @@ module _ (task : TraceTask) (drive : Option Drive) (drive_is : task.drive ≡ dr
         );
       }
 
-      task_failed : (fault : Fault) → FailsRun task file IsSome IsAll a c fault → IsTraceFault task files known (streams input left a c) fault
+      task_failed : (fault : Fault) → FailsRun task conf file IsSome IsAll a c fault → IsTraceFault task files known (streams input left a c) fault
       task_failed fault (inl h) =
           early fault (subst (IsEarlyFault drive task known input) (sym h.fault_is) (unbooted h.error h.answer)) h.same
       task_failed fault (inr (inl h)) = no_word h.booted h.boots fault h.is_unasked h.same
@@ -324,34 +329,35 @@ module _ (task : TraceTask) (files : List ℕ → Option (List ℕ)) (known inpu
   schedule_early a fault h = early task None none files known input left a a tt fault h refl
 
   -- that was read
-  module _ (a c : Option (List ℕ)) (file : List ℕ) (is_file : IfSome known (λ bytes. file ≡ bytes)) (scheduled : List Event)
-      (is : OfText input (λ text. IsSchedule (lines_of text) scheduled)) (r : Result RunStop Fault) where
-    has_schedule : HasSchedule input
-    has_schedule = (is.0, is.1, (is.2.0, (scheduled, is.2.1)))
+  module _ (a c : Option (List ℕ)) (file : List ℕ) (is_file : IfSome known (λ bytes. file ≡ bytes)) (conf : Conf) (listed : List Event)
+      (is : OfText input (λ text. ListsFor task.size file text listed conf)) (r : Result RunStop Fault) where
+    lists : ListsIn input listed
+    lists = (is.0, is.1, (is.2.0, (is.2.1.0, is.2.1.1)))
 
-    runs_none : (s t : State) (entries : List Entry) (stop : RunStop) → MakesAll scheduled s entries stop t → Runs None files input s entries stop t
-    runs_none s t entries stop h = record { scheduled = scheduled; is_schedule = is; makes = h }
+    is_conf_none : IsConfOf None task.size file input conf
+    is_conf_none = (is.0, is.1, (is.2.0, (listed, is.2.1)))
 
-    begins_none : (s t : State) (entries : List Entry) → MakesSome scheduled s entries t → Begins None files input s entries t
-    begins_none s t entries h = record { scheduled = scheduled; is_schedule = is; are_first = h.0; leads = h.1 }
+    runs_none : (s t : State) (entries : List Entry) (stop : RunStop) → MakesAll listed s entries stop t → Runs None files input s entries stop t
+    runs_none s t entries stop h = record { listed = listed; lists = lists; makes = h }
 
-    unbooted_none : (e : BootError) → BootsState file (conf_of task.size) (boot_fault file (conf_of task.size)) (Err e) →
+    begins_none : (s t : State) (entries : List Entry) → MakesSome listed s entries t → Begins None files input s entries t
+    begins_none s t entries h = record { listed = listed; lists = lists; are_first = h.0; leads = h.1 }
+
+    unbooted_none : (e : BootError) → BootsState file conf (boot_fault file conf) (Err e) →
         IsFaultOf (run_of task) known input (fault_of_boot e)
-    unbooted_none e h =
-        state_failed (IsFaultOf (run_of task) known input) known (conf_of task.size) file e is_file (λ outside. (has_schedule, outside))
-        (λ e has. (has_schedule, has)) tt h
+    unbooted_none e h = unbooted (run_of task) known input file is.0 is_file is.1 is.2.0 listed conf e is.2.1 h
 
-    pub schedule_ok : IfOk r (PrintsRun task file (MakesAll scheduled) a c) → IfOk r (IsTraced task files known (streams input left a c))
+    pub schedule_ok : IfOk r (PrintsRun task conf file (MakesAll listed) a c) → IfOk r (IsTraced task files known (streams input left a c))
     schedule_ok =
-        IfOk-weaker r (PrintsRun task file (MakesAll scheduled) a c) (IsTraced task files known (streams input left a c))
-        (task_traced task None none files known input left a c tt file is_file (MakesAll scheduled) runs_none)
+        IfOk-weaker r (PrintsRun task conf file (MakesAll listed) a c) (IsTraced task files known (streams input left a c))
+        (task_traced task None none files known input left a c tt file is_file conf is_conf_none (MakesAll listed) runs_none)
 
-    pub schedule_bad : IfErr r (FailsRun task file (MakesSome scheduled) (MakesAll scheduled) a c) →
+    pub schedule_bad : IfErr r (FailsRun task conf file (MakesSome listed) (MakesAll listed) a c) →
         IfErr r (IsTraceFault task files known (streams input left a c))
     schedule_bad =
-        IfErr-weaker r (FailsRun task file (MakesSome scheduled) (MakesAll scheduled) a c) (IsTraceFault task files known (streams input left a c))
-        (task_failed task None none files known input left a c tt file is_file (MakesAll scheduled) runs_none (MakesSome scheduled) begins_none
-        unbooted_none has_schedule)
+        IfErr-weaker r (FailsRun task conf file (MakesSome listed) (MakesAll listed) a c) (IsTraceFault task files known (streams input left a c))
+        (task_failed task None none files known input left a c tt file is_file conf is_conf_none (MakesAll listed) runs_none (MakesSome listed) begins_none
+        unbooted_none (listed, lists))
 
 -- by a policy
 module _ (task : TraceTask) (options : Drive) (files : List ℕ → Option (List ℕ)) (known : Option (List ℕ)) (some : task.drive ≡ Some options) where
@@ -360,7 +366,7 @@ module _ (task : TraceTask) (options : Drive) (files : List ℕ → Option (List
   drive_early input a fault h = early task (Some options) some files known input input a a refl fault h refl
 
   -- with the keys that were read
-  module _ (a c : Option (List ℕ)) (file : List ℕ) (is_file : IfSome known (λ bytes. file ≡ bytes)) (keys : List ℕ)
+  module _ (a c : Option (List ℕ)) (file : List ℕ) (is_file : IfSome known (λ bytes. file ≡ bytes)) (conf : Conf) (is_conf : conf ≡ conf_asked task.size) (keys : List ℕ)
       (are : AreKeys options.keys files keys) (r : Result RunStop Fault) where
     abbrev IsAll : State → List Entry → RunStop → State → Type 0
     IsAll = DrivesAll (rules_of options keys) options.events
@@ -376,22 +382,22 @@ module _ (task : TraceTask) (options : Drive) (files : List ℕ → Option (List
         Begins (Some options) files input s entries t
     begins_some input s t entries h = record { keys = keys; are_keys = are; few = h.few; cursor = h.cursor; chosen_are = h.chosen_are }
 
-    unbooted_some : (e : BootError) → BootsState file (conf_of task.size) (boot_fault file (conf_of task.size)) (Err e) →
+    unbooted_some : (e : BootError) → BootsState file conf (boot_fault file conf) (Err e) →
         IsDrivenFault (driven_of task options) known (fault_of_boot e)
     unbooted_some e h =
-        state_failed (IsDrivenFault (driven_of task options) known) known (conf_of task.size) file e is_file (λ outside. outside)
-        (λ e has. has) tt h
+        state_failed (IsDrivenFault (driven_of task options) known) known (conf_asked task.size) file e is_file (λ outside. outside)
+        (λ e has. has) tt (subst (λ conf. BootsState file conf (boot_fault file conf) (Err e)) is_conf h)
 
-    pub drive_ok : IfOk r (PrintsRun task file (DrivesAll (rules_of options keys) options.events) a c) →
+    pub drive_ok : IfOk r (PrintsRun task conf file (DrivesAll (rules_of options keys) options.events) a c) →
         IfOk r (λ stop. (input : Option (List ℕ)) → IsTraced task files known (streams input input a c) stop)
     drive_ok =
-        IfOk-weaker r (PrintsRun task file IsAll a c) (λ stop. (input : Option (List ℕ)) → IsTraced task files known (streams input input a c) stop)
-        (λ stop h input. task_traced task (Some options) some files known input input a c refl file is_file IsAll (runs_some input) stop h)
+        IfOk-weaker r (PrintsRun task conf file IsAll a c) (λ stop. (input : Option (List ℕ)) → IsTraced task files known (streams input input a c) stop)
+        (λ stop h input. task_traced task (Some options) some files known input input a c refl file is_file conf is_conf IsAll (runs_some input) stop h)
 
-    pub drive_bad : IfErr r (FailsRun task file (DrivesSome (rules_of options keys) options.events) (DrivesAll (rules_of options keys) options.events) a c) →
+    pub drive_bad : IfErr r (FailsRun task conf file (DrivesSome (rules_of options keys) options.events) (DrivesAll (rules_of options keys) options.events) a c) →
         IfErr r (λ fault. (input : Option (List ℕ)) → IsTraceFault task files known (streams input input a c) fault)
     drive_bad =
-        IfErr-weaker r (FailsRun task file IsSome IsAll a c)
+        IfErr-weaker r (FailsRun task conf file IsSome IsAll a c)
         (λ fault. (input : Option (List ℕ)) → IsTraceFault task files known (streams input input a c) fault)
-        (λ fault h input. task_failed task (Some options) some files known input input a c refl file is_file IsAll (runs_some input) IsSome
+        (λ fault h input. task_failed task (Some options) some files known input input a c refl file is_file conf is_conf IsAll (runs_some input) IsSome
         (begins_some input) unbooted_some (keys, are) fault h)

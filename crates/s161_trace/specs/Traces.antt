@@ -3,6 +3,7 @@ use Rattle.std.proofs.Common.{Bor}
 use Rattle.std.specs.Io.KnownBytes.{Appends}
 use Rattle.m161_cpu.specs.declared.processor.Outcome.{Outcome}
 use Rattle.m161_cpu.specs.declared.processor.Outcome.TheVariants as outcomes
+use Rattle.m161_machine.specs.declared.conf.Conf.{Conf}
 use Rattle.m161_machine.specs.declared.event.Entry.{Entry}
 use Rattle.m161_machine.specs.declared.event.Event.{Event}
 use Rattle.m161_machine.specs.declared.event.Event.TheVariants as event
@@ -16,7 +17,6 @@ use Rattle.m161_drive.specs.declared.cursor.Cursor.{Cursor}
 use Rattle.m161_drive.specs.declared.run.Driven.{Driven}
 use Rattle.m161_drive.specs.Choice.{cursor_at}
 use Rattle.m161_drive.specs.Drive.{Chooses, Drives}
-use Rattle.m161_steplog.specs.Schedule.{IsSchedule}
 use Rattle.m161_text.specs.Lines.{lines_of, text_of, with_line_end}
 use Rattle.m161_trace.specs.Line.{event_line_with}
 use Rattle.m161_trace.specs.Loads.{word_around}
@@ -26,10 +26,12 @@ use Rattle.s161_base.specs.declared.fault.Fault.{Fault}
 use Rattle.s161_base.specs.declared.fault.Fault.TheVariants.{Memory, Output, Touches}
 use Rattle.s161_base.specs.Faults.{BootsIn}
 use Rattle.s161_base.specs.Known.{OfText}
+use Rattle.s161_base.specs.Listed.{Lists, ListsFor}
+use Rattle.s161_base.specs.Machines.{conf_asked}
+use Rattle.s161_base.specs.declared.machines.NamedMachine.{NamedMachine}
+use Rattle.s161_command.specs.declared.task.AskedSize.{AskedSize}
 use Rattle.s161_base.specs.Naming.{image_symbols, style_of}
-use Rattle.s161_base.specs.Sizes.{conf_of}
 use Rattle.s161_base.specs.Streams.{AppendsSome, Streams}
-use Rattle.s161_base.specs.Texts.{HasSchedule}
 use Rattle.s161_command.specs.declared.drive.Drive.{Drive}
 use Rattle.s161_command.specs.declared.task.DrivenTask.{DrivenTask}
 use Rattle.s161_command.specs.declared.task.RunTask.{RunTask}
@@ -107,7 +109,7 @@ IsNoWord symbols ram text =
     ⊎ ((address : ℕ) × IsPlace symbols address text
     × (word_around ram (physical_of address) ≡ None))
 
--- the word that a task asks for over this file of its image, if it asks for one
+-- the word of RAM, of so many bytes, that a task asks for over this file of its image, if it asks for one
 abbrev pub symbols_of : TraceTask → List ℕ → List (List ℕ × ℕ)
 symbols_of task file = image_symbols task.image.now file
 
@@ -115,8 +117,8 @@ abbrev pub IsWordIf : Option (Bor (List ℕ)) → List (List ℕ × ℕ) → ℕ
 IsWordIf None symbols ram touches = touches ≡ None
 IsWordIf (Some text) symbols ram touches = IsSomeAnd touches (IsWordOf symbols ram text.now)
 
-abbrev pub IsAskedWord : TraceTask → List ℕ → Option ℕ → Type 0
-IsAskedWord task file touches = IsWordIf task.touches (symbols_of task file) task.size.ram touches
+abbrev pub IsAskedWord : TraceTask → ℕ → List ℕ → Option ℕ → Type 0
+IsAskedWord task ram file touches = IsWordIf task.touches (symbols_of task file) ram touches
 
 -- what is told of events
 
@@ -157,12 +159,12 @@ touches_if from count number s e o t =
 abbrev pub touches_in : ℕ → ℕ → ℕ → State → List Entry → List Touch
 touches_in from count number s entries = told (touches_if from count) number s entries
 
--- the words that the task asks for, if it asks for those that are shared: among the touches of a whole
--- run's events that it leaves by their numbers
-abbrev pub shared_words : TraceTask → State → List Entry → Option (ℕ → Bool)
-shared_words task s whole =
+-- the words of RAM, of so many bytes, that the task asks for, if it asks for those that are shared: among
+-- the touches of a whole run's events that it leaves by their numbers
+abbrev pub shared_words : TraceTask → ℕ → State → List Entry → Option (ℕ → Bool)
+shared_words task ram s whole =
     if task.shared
-    then Some (is_shared (task.size.ram / 4) (touches_in task.from task.count 0 s whole))
+    then Some (is_shared (ram / 4) (touches_in task.from task.count 0 s whole))
     else None
 
 -- those that the task asks for, over this file of its image: where it asks for this word, and for
@@ -185,15 +187,19 @@ abbrev pub trace_text :
 trace_text task file touches shared s entries stop =
     lines_text task file touches shared s entries ++ with_line_end (stop_line stop)
 
--- from a state the first events of a schedule, which is all of an input, are made: so many as are
+-- an input's text, a schedule or a log, lists these events
+abbrev pub ListsIn : Option (List ℕ) → List Event → Type 0
+ListsIn input events = OfText input (λ text. (named : Option NamedMachine) × Lists text events named)
+
+-- from a state the first events that an input's text lists are made: so many as are
 -- made before the machine is off or one is refused. These are their entries, and they lead to
 -- another state
 pub record RunsSchedule
     (input : Option (List ℕ)) (s : State) (entries : List Entry) (stop : RunStop) (t : State)
     : Type 0 where
-  pub scheduled : List Event
-  pub is_schedule : OfText input (λ text. IsSchedule (lines_of text) scheduled)
-  pub makes : MakesEvents s scheduled stop entries t
+  pub listed : List Event
+  pub lists : ListsIn input listed
+  pub makes : MakesEvents s listed stop entries t
 
 -- from a state the events that a policy chooses, with the keys of a file, are made
 pub record RunsDriven
@@ -205,7 +211,7 @@ pub record RunsDriven
   pub drives : Drives (rules_of options keys) options.events s driven entries t
   pub stop_is : stop ≡ stop_of driven t
 
--- a whole run: without a drive by the schedule that the input holds
+-- a whole run: without a drive of the events that the input lists
 abbrev pub Runs :
     Option Drive → (List ℕ → Option (List ℕ)) → Option (List ℕ) → State → List Entry → RunStop →
     State → Type 0
@@ -219,12 +225,12 @@ IsWhole task files input s whole =
     task.shared ≡ true
     → (stop : RunStop) × (t : State) × Runs task.drive files input s whole stop t
 
--- such a run so far, whether or not more events come: the first of a schedule's
+-- such a run so far, whether or not more events come: the first of a list's
 pub record BeginsSchedule
     (input : Option (List ℕ)) (s : State) (entries : List Entry) (t : State) : Type 0 where
-  pub scheduled : List Event
-  pub is_schedule : OfText input (λ text. IsSchedule (lines_of text) scheduled)
-  pub are_first : events_of entries ≡ take (length entries) scheduled
+  pub listed : List Event
+  pub lists : ListsIn input listed
+  pub are_first : events_of entries ≡ take (length entries) listed
   pub leads : Leads s entries t
 
 -- or those that the policy chooses, one after the other
@@ -245,12 +251,21 @@ abbrev pub Begins :
 Begins None files input s entries t = BeginsSchedule input s entries t
 Begins (Some drive) files input s entries t = BeginsDriven drive files s entries t
 
+-- the machine of a task over an image's file: without a drive the one that is asked for over the input's
+-- text
+abbrev pub IsConfOf : Option Drive → AskedSize → List ℕ → Option (List ℕ) → Conf → Type 0
+IsConfOf None asked file input conf =
+    OfText input (λ text. (events : List Event) × ListsFor asked file text events conf)
+IsConfOf (Some drive) asked file input conf = conf ≡ conf_asked asked
+
 -- the task's image is booted; its file has these bytes, as far as they are known
 pub record BootsFor
-    (task : TraceTask) (known : Option (List ℕ)) (booted : State) : Type 0 where
+    (task : TraceTask) (known : Option (List ℕ)) (input : Option (List ℕ)) (booted : State) : Type 0 where
   pub file : List ℕ
   pub is_file : IfSome known (λ bytes. file ≡ bytes)
-  pub boots : BootsIn file (conf_of task.size) booted
+  pub conf : Conf
+  pub is_conf : IsConfOf task.drive task.size file input conf
+  pub boots : BootsIn file conf booted
 
 -- with an order the input isn't read
 abbrev pub IsUnread : Option Drive → Streams → Type 0
@@ -262,9 +277,9 @@ pub record IsTraced
     (task : TraceTask) (files : List ℕ → Option (List ℕ)) (known : Option (List ℕ)) (x : Streams)
     (stop : RunStop) : Type 0 where
   pub booted : State
-  pub boots : BootsFor task known booted
+  pub boots : BootsFor task known x.input booted
   pub touches : Option ℕ
-  pub is_asked : IsAskedWord task boots.file touches
+  pub is_asked : IsAskedWord task boots.conf.ram boots.file touches
   pub whole : List Entry
   pub is_whole : IsWhole task files x.input booted whole
   pub entries : List Entry
@@ -273,7 +288,7 @@ pub record IsTraced
   pub is_unread : IsUnread task.drive x
   pub written :
       Appends x.before x.after
-      (trace_text task boots.file touches (shared_words task booted whole) booted entries stop)
+      (trace_text task boots.file touches (shared_words task boots.conf.ram booted whole) booted entries stop)
 
 -- the run of a task, as `run` is asked for it
 abbrev pub run_of : TraceTask → RunTask
@@ -288,9 +303,9 @@ abbrev pub IsEarlyFault :
 IsEarlyFault None task known input fault = IsFaultOf (run_of task) known input fault
 IsEarlyFault (Some drive) task known input fault = IsDrivenFault (driven_of task drive) known fault
 
--- the inputs are read: a schedule, or the keys
+-- the inputs are read: a list of events, or the keys
 abbrev pub HasInputs : Option Drive → (List ℕ → Option (List ℕ)) → Option (List ℕ) → Type 0
-HasInputs None files input = HasSchedule input
+HasInputs None files input = (events : List Event) × ListsIn input events
 HasInputs (Some drive) files input = (keys : List ℕ) × AreKeys drive.keys files keys
 
 -- where they are, and the image is booted, the word that the task asks for may stand for none
@@ -299,10 +314,10 @@ pub record LacksWord
     (fault : Fault) : Type 0 where
   pub has_inputs : HasInputs task.drive files x.input
   pub booted : State
-  pub boots : BootsFor task known booted
+  pub boots : BootsFor task known x.input booted
   pub text : Bor (List ℕ)
   pub asked : task.touches ≡ Some text
-  pub is_none : IsNoWord (symbols_of task boots.file) task.size.ram text.now
+  pub is_none : IsNoWord (symbols_of task boots.file) boots.conf.ram text.now
   pub fault_is : fault ≡ Touches text
 
 -- what was written before a fault in the run: a beginning of the lines of the events that were made,
@@ -312,9 +327,9 @@ pub record FailsInRun
     (fault : Fault) : Type 0 where
   pub is_fault : (fault ≡ Output) ⊎ (fault ≡ Memory)
   pub booted : State
-  pub boots : BootsFor task known booted
+  pub boots : BootsFor task known x.input booted
   pub touches : Option ℕ
-  pub is_asked : IsAskedWord task boots.file touches
+  pub is_asked : IsAskedWord task boots.conf.ram boots.file touches
   pub whole : List Entry
   pub is_whole : IsWhole task files x.input booted whole
   pub entries : List Entry
@@ -322,10 +337,10 @@ pub record FailsInRun
   pub some_written :
       (Begins task.drive files x.input booted entries state
       × AppendsSome x.before x.after
-      (lines_text task boots.file touches (shared_words task booted whole) booted entries))
+      (lines_text task boots.file touches (shared_words task boots.conf.ram booted whole) booted entries))
       ⊎ ((stop : RunStop) × Runs task.drive files x.input booted entries stop state
       × AppendsSome x.before x.after
-      (trace_text task boots.file touches (shared_words task booted whole) booted entries stop))
+      (trace_text task boots.file touches (shared_words task boots.conf.ram booted whole) booted entries stop))
 
 -- a fault that ends the task: before the run, and nothing was written; or in the run
 pub record IsTraceFault

@@ -103,19 +103,21 @@ fn is_sharing(
 }
 
 impl LineFilter {
-    /// The events that a task over an image's file asks for, whether or not they share words.
+    /// The events that a task over an image's file, in so many bytes of RAM, asks for, whether or not
+    /// they share words.
     ///
     /// # Errors
     /// Those of `asked_word`.
     pub(crate) fn of<'a>(
         alloc: Global,
         task: &TraceTask<'a>,
+        ram: u32,
         file: &[u8],
     ) -> Result<LineFilter, Fault<'a>>
-        ensures ok { IfOk result (IsFilter task.now file.now) }
-        ensures err { IfErr result (IsUnasked task.now file.now) }
+        ensures ok { IfOk result (IsFilter task.now ram file.now) }
+        ensures err { IfErr result (IsUnasked task.now ram file.now) }
     {
-        let touches = asked_word(alloc, task, file)?;
+        let touches = asked_word(alloc, task, ram, file)?;
         Ok(LineFilter {
             style: style_of(alloc, task.registers, task.symbols, task.image, file)?,
             from: task.from,

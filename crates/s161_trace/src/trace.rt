@@ -2,10 +2,9 @@
 
 ghost use Rattle.std.specs.Prelude.{◌≡◌, ℕ, ◌++◌, List, Option, IfErr, IfOk, IfSome, None, Some};
 ghost use Rattle.m161_order.specs.Order.{order_fault};
-ghost use Rattle.m161_steplog.specs.Schedule.{IsSchedule};
-ghost use Rattle.m161_text.specs.Lines.{lines_of};
 ghost use Rattle.s161_base.specs.Asked.{AsksFor, IsBeforeInput, image_files, option_files};
 ghost use Rattle.s161_base.specs.Known.{OfText};
+ghost use Rattle.s161_base.specs.Listed.{ListsFor};
 ghost use Rattle.s161_base.specs.Samples.{image_file};
 ghost use Rattle.s161_base.specs.Streams.{streams};
 ghost use Rattle.s161_run.specs.Driven.{AreKeys, IsDrivenFault, rules_of};
@@ -20,21 +19,21 @@ use crate::driven::{print_drive, shared_in_drive};
 use crate::filter::LineFilter;
 use crate::scheduled::{print_schedule, shared_in_schedule};
 use m161::Machine;
-use m161_machine::Events;
+use m161_machine::{Conf, Events};
 use s161_base::fault::Fault;
 use s161_base::files::FileSource;
 use s161_base::input::read_input;
+use s161_base::listed::{Planned, plan_run};
+use s161_base::machines::conf_asked;
 use s161_base::sample::read_image;
-use s161_base::sizes::conf_of;
-use s161_base::texts::events_of;
 use s161_command::{Drive, TraceTask};
 use s161_run::events::RunStop;
 use s161_run::policy::read_keys;
 use std::alloc::Global;
 use std::io::{Read, Write};
 
-/// Reads the image, and the schedule from the input or the keys; boots the image, and makes the
-/// schedule's events, or those that the policy chooses. The lines of the events that the task asks
+/// Reads the image, and the schedule or the log from the input, or the keys; boots the image, and makes
+/// the text's events, or those that the policy chooses. The lines of the events that the task asks
 /// for are written in pieces of whole lines, at most 65,536 bytes each, as the run goes on; the last
 /// piece ends with why it stopped.
 ///
@@ -72,17 +71,17 @@ pub fn trace<'a, F: FileSource, I: Read, O: Write>(
     }
 }
 
-// The image's bytes, and the events of the schedule.
+// The image's bytes, the events of the schedule or of the log, and their machine.
 fn read_scheduled<'a, F: FileSource, I: Read>(
     alloc: Global,
     files: &mut F,
     input: &mut I,
     task: TraceTask<'a>,
-) -> Result<(Vec<u8>, Events), Fault<'a>>
+) -> Result<(Vec<u8>, Planned), Fault<'a>>
     ensures file { IfOk result (λ read. IfSome
         (image_file (F.known files.old) task.entry.image.now) (λ bytes. read.0.items ≡ bytes)) }
     ensures events { IfOk result (λ read. OfText (I.remaining input.old)
-        (λ text. IsSchedule (lines_of text) read.1)) }
+        (λ text. ListsFor task.entry.size read.0.items text read.1.events read.1.conf)) }
     ensures fault { IfErr result (IsFaultOf (run_of task.entry)
         (image_file (F.known files.old) task.entry.image.now) (I.remaining input.old)) }
     ensures asks { AsksFor (image_files task.entry.image.now) result (F.asked files.old)
@@ -92,20 +91,22 @@ fn read_scheduled<'a, F: FileSource, I: Read>(
 {
     let file = read_image(alloc, files, task.image)?;
     let schedule = read_input(alloc, input)?;
-    let events = events_of(alloc, schedule.as_str())?;
-    Ok((file, events))
+    let run = plan_run(alloc, task.size, &file, schedule.as_str())?;
+    Ok((file, run))
 }
 
-// The filter, with the words that are shared in the run by a schedule, if the task asks for them.
+// The filter, with the words of RAM, of so many bytes, that are shared in the run by a schedule, if the
+// task asks for them.
 fn share_schedule<'a>(
     alloc: Global,
     task: &TraceTask<'_>,
+    ram: u32,
     machine: &Machine,
     events: &Events,
     filter: LineFilter,
 ) -> Result<LineFilter, Fault<'a>>
     ensures ok { IfOk result (λ w. (w ≡ with_shared filter w.shared)
-        × IsSharedIf task.now machine.now.state (MakesAll events.now) w.shared) }
+        × IsSharedIf task.now ram machine.now.state (MakesAll events.now) w.shared) }
     ensures err { IfErr result (λ fault. fault ≡ Memory) }
 {
     if !task.shared {
@@ -114,7 +115,7 @@ fn share_schedule<'a>(
             ..filter
         });
     }
-    let words = (task.size.ram / 4) as usize;
+    let words = (ram / 4) as usize;
     let shared = shared_in_schedule(alloc, machine, events, words, task.from, task.count)?;
     Ok(LineFilter {
         shared: Some(shared),
@@ -126,18 +127,19 @@ fn share_schedule<'a>(
 fn run_schedule<'a, O: Write>(
     alloc: Global,
     task: &TraceTask<'a>,
+    conf: Conf,
     file: &[u8],
     events: &Events,
     output: &mut O,
 ) -> Result<RunStop, Fault<'a>>
-    ensures ok { IfOk result (PrintsRun task.now file.now (MakesAll events.now)
+    ensures ok { IfOk result (PrintsRun task.now conf file.now (MakesAll events.now)
         (O.contents output.old) (O.contents output.new)) }
-    ensures err { IfErr result (FailsRun task.now file.now (MakesSome events.now)
+    ensures err { IfErr result (FailsRun task.now conf file.now (MakesSome events.now)
         (MakesAll events.now) (O.contents output.old) (O.contents output.new)) }
 {
-    let mut machine = Machine::boot(alloc, file, conf_of(task.size))?;
-    let filter = LineFilter::of(alloc, task, file)?;
-    let filter = share_schedule(alloc, task, &machine, events, filter)?;
+    let mut machine = Machine::boot(alloc, file, conf)?;
+    let filter = LineFilter::of(alloc, task, conf.ram, file)?;
+    let filter = share_schedule(alloc, task, conf.ram, &machine, events, filter)?;
     print_schedule(alloc, &mut machine, events, filter, output)
 }
 
@@ -164,7 +166,7 @@ fn trace_schedule<'a, F: FileSource, I: Read, O: Write>(
         (I.remaining input.new)) }
 {
     let read = read_scheduled(alloc, files, input, task)?;
-    run_schedule(alloc, &task, &read.0, &read.1, output)
+    run_schedule(alloc, &task, read.1.conf, &read.0, &read.1.events, output)
 }
 
 // The image's bytes, and the keys.
@@ -188,11 +190,12 @@ fn read_driven<'a, F: FileSource>(
     Ok((file, keys))
 }
 
-// The filter, with the words that are shared in the run by a policy with these keys, if the task asks
-// for them.
+// The filter, with the words of RAM, of so many bytes, that are shared in the run by a policy with these
+// keys, if the task asks for them.
 fn share_drive<'a>(
     alloc: Global,
     task: &TraceTask<'_>,
+    ram: u32,
     machine: &Machine,
     options: Drive<'_>,
     keys: &[u8],
@@ -200,7 +203,7 @@ fn share_drive<'a>(
 ) -> Result<LineFilter, Fault<'a>>
     requires { order_fault options.order ≡ None }
     ensures ok { IfOk result (λ w. (w ≡ with_shared filter w.shared)
-        × IsSharedIf task.now machine.now.state
+        × IsSharedIf task.now ram machine.now.state
         (DrivesAll (rules_of options.entry keys.now) options.entry.events) w.shared) }
     ensures err { IfErr result (λ fault. fault ≡ Memory) }
 {
@@ -210,7 +213,7 @@ fn share_drive<'a>(
             ..filter
         });
     }
-    let words = (task.size.ram / 4) as usize;
+    let words = (ram / 4) as usize;
     let shared = shared_in_drive(alloc, machine, options, keys, words, task.from, task.count)?;
     Ok(LineFilter {
         shared: Some(shared),
@@ -222,23 +225,24 @@ fn share_drive<'a>(
 fn run_drive<'a, O: Write>(
     alloc: Global,
     task: &TraceTask<'a>,
+    conf: Conf,
     options: Drive<'_>,
     file: &[u8],
     keys: &[u8],
     output: &mut O,
 ) -> Result<RunStop, Fault<'a>>
     requires { order_fault options.order ≡ None }
-    ensures ok { IfOk result (PrintsRun task.now file.now
+    ensures ok { IfOk result (PrintsRun task.now conf file.now
         (DrivesAll (rules_of options.entry keys.now) options.entry.events)
         (O.contents output.old) (O.contents output.new)) }
-    ensures err { IfErr result (FailsRun task.now file.now
+    ensures err { IfErr result (FailsRun task.now conf file.now
         (DrivesSome (rules_of options.entry keys.now) options.entry.events)
         (DrivesAll (rules_of options.entry keys.now) options.entry.events)
         (O.contents output.old) (O.contents output.new)) }
 {
-    let mut machine = Machine::boot(alloc, file, conf_of(task.size))?;
-    let filter = LineFilter::of(alloc, task, file)?;
-    let filter = share_drive(alloc, task, &machine, options, keys, filter)?;
+    let mut machine = Machine::boot(alloc, file, conf)?;
+    let filter = LineFilter::of(alloc, task, conf.ram, file)?;
+    let filter = share_drive(alloc, task, conf.ram, &machine, options, keys, filter)?;
     print_drive(alloc, &mut machine, options, keys, filter, output)
 }
 
@@ -262,5 +266,6 @@ fn trace_driven<'a, F: FileSource, O: Write>(
         result (F.asked files.old) (F.asked files.new) }
 {
     let read = read_driven(alloc, files, task, options)?;
-    run_drive(alloc, &task, options, &read.0, &read.1, output)
+    let conf = conf_asked(task.size);
+    run_drive(alloc, &task, conf, options, &read.0, &read.1, output)
 }

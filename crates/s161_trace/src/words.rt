@@ -37,23 +37,24 @@ fn word_of<'a>(symbols: &Symbols, ram: u32, text: &'a str) -> Result<u32, Fault<
     }
 }
 
-/// The word that a task over an image's file asks for, if it asks for one.
+/// The word of RAM, of so many bytes, that a task over an image's file asks for, if it asks for one.
 ///
 /// # Errors
 /// It stands for no byte of RAM; or memory was refused.
 pub(crate) fn asked_word<'a>(
     alloc: Global,
     task: &TraceTask<'a>,
+    ram: u32,
     file: &[u8],
 ) -> Result<Option<u32>, Fault<'a>>
-    ensures ok { IfOk result (IsAskedWord task.now file.now) }
-    ensures err { IfErr result (IsUnasked task.now file.now) }
+    ensures ok { IfOk result (IsAskedWord task.now ram file.now) }
+    ensures err { IfErr result (IsUnasked task.now ram file.now) }
 {
     match task.touches {
         None => Ok(None),
         Some(text) => {
             let symbols = image_symbols(alloc, task.image, file)?;
-            let word = word_of(&symbols, task.size.ram, text)?;
+            let word = word_of(&symbols, ram, text)?;
             Ok(Some(word))
         }
     }

@@ -3,10 +3,11 @@ use Rattle.std.proofs.lemmas.Result.{err_from_is_err_and}
 use Rattle.m161_machine.specs.declared.event.Event.{Event}
 use Rattle.m161_debug.specs.Breakpoints.{SessionState}
 use Rattle.s161_base.specs.Streams.{streams}
+use Rattle.s161_base.proofs.Listing.{if_err}
 use Rattle.s161_debug.specs.Debugs.{debug_files}
 use Rattle.s161_debug.specs.Sessions.{Breaks, Ends}
 use Rattle.s161_debug.proofs.Asking.{session_asks}
-use Rattle.s161_debug.proofs.Results.{if_err, on_ok}
+use Rattle.s161_debug.proofs.Results.{on_ok}
 use Rattle.s161_debug.proofs.debug.debug.Goals as goal
 
 pub returns-in_err-opened-clause-fault : goal.returns-in_err-opened-clause-fault

@@ -1,10 +1,10 @@
 use Rattle.std.proofs.Common.{None, inl, inr, refl, subst, sym}
 use Rattle.std.proofs.lemmas.Result.{err_from_is_err_and}
+use Rattle.s161_base.proofs.Listing.{if_err, if_ok}
 use Rattle.s161_base.specs.Asked.{option_files}
 use Rattle.s161_run.proofs.Keeping.{last_unread}
 use Rattle.s161_run.specs.Driven.{AreKeys}
 use Rattle.s161_debug.proofs.Asking.{machine_asks}
-use Rattle.s161_debug.proofs.Results.{if_err, if_ok}
 use Rattle.s161_debug.proofs.opening.open_driven.Goals as goal
 
 pub returns-in_err-keys-clause-fault : goal.returns-in_err-keys-clause-fault
@@ -20,7 +20,7 @@ returns-clause-ok g c =
     let files = g.F.FileSource.known c.args.files.now in
     let keys = subst (AreKeys c.args.drive.keys files) (sym c.deref.ensures.value) c.in_ok-keys.ensures.whole in
     if_ok c.open_chosen.result (λ opened h. record {
-      logged = None;
+      named = None;
       come = ((c.deref.result.now, keys, h.1), refl);
       is_that = refl;
       boots = h.0;

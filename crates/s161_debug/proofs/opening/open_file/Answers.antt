@@ -2,11 +2,11 @@ use Rattle.std.proofs.Common.{◌≡◌, List, ℕ, [], ◌∷◌, IfSome, inl, 
 use Rattle.m161_machine.specs.declared.event.Event.{Event}
 use Rattle.std.proofs.lemmas.Result.{err_from_is_err_and}
 use Rattle.s161_base.proofs.Asking.{after_all, file_unread}
+use Rattle.s161_base.proofs.Listing.{if_err, if_ok, list_is_none}
 use Rattle.s161_base.specs.Known.{IsText}
+use Rattle.s161_base.specs.Listed.{Lists}
 use Rattle.s161_base.specs.Reading.{IsOfText}
-use Rattle.s161_debug.specs.Debugs.{Lists}
-use Rattle.s161_debug.proofs.Asking.{list_is_none, machine_asks}
-use Rattle.s161_debug.proofs.Results.{if_err, if_ok}
+use Rattle.s161_debug.proofs.Asking.{machine_asks}
 use Rattle.s161_debug.proofs.opening.open_file.Goals as goal
 
 pub returns-in_err-text-clause-fault : goal.returns-in_err-text-clause-fault
@@ -33,9 +33,9 @@ returns-clause-ok g c =
     let is = subst T (sym c.as_str.ensures.value) c.in_ok-text.ensures.whole in
     let utf8 = subst IsText (sym c.as_str.ensures.value) c.in_ok-text.text.ok in
     let listed = c.in_ok-listed.listed in
-    let L : List Event → Type 0 = λ events. Lists c.as_str.result.now events listed.logged in
+    let L : List Event → Type 0 = λ events. Lists c.as_str.result.now events listed.named in
     if_ok c.open_listed.result (λ opened h. record {
-      logged = listed.logged;
+      named = listed.named;
       come = (c.as_str.result.now, is, (utf8, subst L (sym h.2) c.in_ok-listed.ensures.ok));
       is_that = h.0;
       boots = h.1;
@@ -49,7 +49,7 @@ returns-clause-fault g c =
     let utf8 = subst IsText (sym c.as_str.ensures.value) c.in_ok-text.text.ok in
     let listed = c.in_ok-listed.listed in
     if_err c.open_listed.result (λ fault h.
-    inr (inr (inr (c.as_str.result.now, is, (utf8, (listed.events.items, listed.logged, c.in_ok-listed.ensures.ok, h))))))
+    inr (inr (inr (c.as_str.result.now, is, (utf8, (listed.events.items, listed.named, c.in_ok-listed.ensures.ok, h))))))
     c.open_listed.ensures.fault
 
 pub returns-in_err-text-clause-asks : goal.returns-in_err-text-clause-asks
@@ -72,5 +72,5 @@ returns-in_err-listed-clause-asks g c =
 pub returns-clause-asks : goal.returns-clause-asks
 returns-clause-asks g c =
     let asked = g.F.FileSource.asked in
-    machine_asks c.args.size c.args.image.now c.in_ok-listed.listed.logged c.open_listed.result c.open_listed.ensures.fault (c.args.name.now ∷ []) (asked c.args.files.now)
+    machine_asks c.args.size c.args.image.now c.in_ok-listed.listed.named c.open_listed.result c.open_listed.ensures.fault (c.args.name.now ∷ []) (asked c.args.files.now)
     (asked c.read_text.new.files) c.in_ok-text.ensures.asks

@@ -45,11 +45,11 @@ returns-clause-ok g c =
       schedule = c.as_str-2.result.now;
       is_input = is_schedule_text;
       is_text = utf8_schedule;
-      events = c.in_ok-events.events;
-      is_schedule = c.in_ok-events.ensures.found;
+      events = run.events;
+      conf = run.conf;
+      lists = subst (λ file. ListsFor c.args.task.size file c.as_str-2.result.now run.events run.conf) (c.deref-3.ensures.value ∙ sym c.deref.ensures.value) c.in_ok-run.ensures.ok;
       finding = c.in-Ok.finding;
-      audits = subst (λ conf. Audits c.deref.result.now conf (boot_fault c.deref.result.now conf) c.in_ok-events.events c.deref-2.result.now (Ok c.in-Ok.finding))
-          c.conf_of-conf.ensures c.in-Ok.ensures;
+      audits = c.in-Ok.ensures;
       text_is = search rules;
       refused = c.in_ok-said.ensures.0;
       are_refused = subst (λ file. AreRefused file (conf_of c.args.task.size) c.in_ok-events.events c.in-Ok.finding c.in_ok-said.ensures.0)

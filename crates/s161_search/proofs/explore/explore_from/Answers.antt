@@ -31,6 +31,6 @@ returns-clause-ok c =
       answer = found.answer;
       answers = subst (λ (k : Criteria). Answers (rules_of (question_of boot k found.known)) c.args.limit found.answer) c.goal-goal.ensures c.in_ok-found.ensures.answers;
       prints =
-          subst (λ (ks : List ℕ). PrintsAnswer c.args.search.size.processors c.args.limit ks found.answer done.text.items done.status) c.deref.ensures.value
+          subst (λ (ks : List ℕ). PrintsAnswer c.args.search.size c.args.limit ks found.answer done.text.items done.status) c.deref.ensures.value
           c.in_ok-print_answer.ensures.prints;
     }

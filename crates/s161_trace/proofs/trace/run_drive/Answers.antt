@@ -13,8 +13,8 @@ returns-in_err-machine-clause-err g c =
     let file = c.args.file.now in
     let a = g.O.Write.contents c.args.output.now in
     let rules = rules_of c.args.options c.args.keys.now in
-    ends_so (FailsRun task file (DrivesSome rules c.args.options.events) (DrivesAll rules c.args.options.events) a a) c.from_residual.result made.0 made.1
-    (not_booted task file (DrivesSome rules c.args.options.events) (DrivesAll rules c.args.options.events) a c.conf_of.result c.in_err-machine.field-0.0 made.0 c.conf_of.ensures
+    ends_so (FailsRun task c.args.conf file (DrivesSome rules c.args.options.events) (DrivesAll rules c.args.options.events) a a) c.from_residual.result made.0 made.1
+    (not_booted task c.args.conf file (DrivesSome rules c.args.options.events) (DrivesAll rules c.args.options.events) a c.in_err-machine.field-0.0 made.0
     c.in_err-machine.ensures.answer made.2)
 
 pub returns-in_err-filter-clause-err : goal.returns-in_err-filter-clause-err
@@ -23,10 +23,10 @@ returns-in_err-filter-clause-err g c =
     let task = c.args.task.now in
     let file = c.args.file.now in
     let m = c.in_ok-machine.machine in
-    let boots = booted_so task file c.conf_of.result m c.conf_of.ensures c.in_ok-machine.ensures.answer in
+    let boots = booted_so file c.args.conf m c.in_ok-machine.ensures.answer in
     let rules = rules_of c.args.options c.args.keys.now in
     rw (made.1, made.2)
-    (without_filter task file (DrivesSome rules c.args.options.events) (DrivesAll rules c.args.options.events) (g.O.Write.contents c.args.output.now) m.state boots c.in_err-filter.field-0.0 c.in_err-filter.ensures.err)
+    (without_filter task c.args.conf file (DrivesSome rules c.args.options.events) (DrivesAll rules c.args.options.events) (g.O.Write.contents c.args.output.now) m.state boots c.in_err-filter.field-0.0 c.in_err-filter.ensures.err)
 
 pub returns-in_err-filter-2-clause-err : goal.returns-in_err-filter-2-clause-err
 returns-in_err-filter-2-clause-err g c =
@@ -34,21 +34,21 @@ returns-in_err-filter-2-clause-err g c =
     let task = c.args.task.now in
     let file = c.args.file.now in
     let m = c.in_ok-machine.machine in
-    let boots = booted_so task file c.conf_of.result m c.conf_of.ensures c.in_ok-machine.ensures.answer in
+    let boots = booted_so file c.args.conf m c.in_ok-machine.ensures.answer in
     let rules = rules_of c.args.options c.args.keys.now in
     rw (made.1, made.2)
-    (without_filter task file (DrivesSome rules c.args.options.events) (DrivesAll rules c.args.options.events) (g.O.Write.contents c.args.output.now) m.state boots c.in_err-filter-2.field-0.0 (inl c.in_err-filter-2.ensures.err))
+    (without_filter task c.args.conf file (DrivesSome rules c.args.options.events) (DrivesAll rules c.args.options.events) (g.O.Write.contents c.args.output.now) m.state boots c.in_err-filter-2.field-0.0 (inl c.in_err-filter-2.ensures.err))
 
 pub returns-clause-ok : goal.returns-clause-ok
 returns-clause-ok g c =
     let task = c.args.task.now in
     let file = c.args.file.now in
     let m = c.in_ok-machine.machine in
-    let boots = booted_so task file c.conf_of.result m c.conf_of.ensures c.in_ok-machine.ensures.answer in
+    let boots = booted_so file c.args.conf m c.in_ok-machine.ensures.answer in
     let rules = rules_of c.args.options c.args.keys.now in
-    run_prints task file (DrivesSome rules c.args.options.events) (DrivesAll rules c.args.options.events) (g.O.Write.contents c.args.output.now) m.state boots
+    run_prints task c.args.conf file (DrivesSome rules c.args.options.events) (DrivesAll rules c.args.options.events) (g.O.Write.contents c.args.output.now) m.state boots
     c.in_ok-filter-2.filter
-    (shared_so task file m.state (DrivesAll rules c.args.options.events) c.in_ok-filter.filter c.in_ok-filter-2.filter c.in_ok-filter.ensures.ok c.in_ok-filter-2.ensures.ok.0 c.in_ok-filter-2.ensures.ok.1)
+    (shared_so task c.args.conf.ram file m.state (DrivesAll rules c.args.options.events) c.in_ok-filter.filter c.in_ok-filter-2.filter c.in_ok-filter.ensures.ok c.in_ok-filter-2.ensures.ok.0 c.in_ok-filter-2.ensures.ok.1)
     c.print_drive.new.machine.state (g.O.Write.contents c.print_drive.new.output) c.print_drive.result c.print_drive.ensures.ok
 
 pub returns-clause-err : goal.returns-clause-err
@@ -56,9 +56,9 @@ returns-clause-err g c =
     let task = c.args.task.now in
     let file = c.args.file.now in
     let m = c.in_ok-machine.machine in
-    let boots = booted_so task file c.conf_of.result m c.conf_of.ensures c.in_ok-machine.ensures.answer in
+    let boots = booted_so file c.args.conf m c.in_ok-machine.ensures.answer in
     let rules = rules_of c.args.options c.args.keys.now in
-    run_fails task file (DrivesSome rules c.args.options.events) (DrivesAll rules c.args.options.events) (g.O.Write.contents c.args.output.now) m.state boots
+    run_fails task c.args.conf file (DrivesSome rules c.args.options.events) (DrivesAll rules c.args.options.events) (g.O.Write.contents c.args.output.now) m.state boots
     c.in_ok-filter-2.filter
-    (shared_so task file m.state (DrivesAll rules c.args.options.events) c.in_ok-filter.filter c.in_ok-filter-2.filter c.in_ok-filter.ensures.ok c.in_ok-filter-2.ensures.ok.0 c.in_ok-filter-2.ensures.ok.1)
+    (shared_so task c.args.conf.ram file m.state (DrivesAll rules c.args.options.events) c.in_ok-filter.filter c.in_ok-filter-2.filter c.in_ok-filter.ensures.ok c.in_ok-filter-2.ensures.ok.0 c.in_ok-filter-2.ensures.ok.1)
     c.print_drive.new.machine.state (g.O.Write.contents c.print_drive.new.output) c.print_drive.result c.print_drive.ensures.err

@@ -28,7 +28,7 @@ returns-clause-ok g c =
     let known = image_file files c.args.task.image.now in
     let R : List ℕ → Type 0 = λ file. IfSome known (λ bytes. file ≡ bytes) in
     drive_ok c.args.task c.args.options files known c.requires.drive (g.O.Write.contents c.args.output.now) (g.O.Write.contents c.run_drive.new.output)
-    c.deref.result.now (subst R (sym c.deref.ensures.value) c.in_ok-read.ensures.file) c.deref-2.result.now
+    c.deref.result.now (subst R (sym c.deref.ensures.value) c.in_ok-read.ensures.file) c.conf_asked-conf.result c.conf_asked-conf.ensures c.deref-2.result.now
     (subst (AreKeys c.args.options.keys files) (sym c.deref-2.ensures.value) c.in_ok-read.ensures.keys) c.run_drive.result c.run_drive.ensures.ok
 
 pub returns-clause-fault : goal.returns-clause-fault
@@ -37,7 +37,7 @@ returns-clause-fault g c =
     let known = image_file files c.args.task.image.now in
     let R : List ℕ → Type 0 = λ file. IfSome known (λ bytes. file ≡ bytes) in
     drive_bad c.args.task c.args.options files known c.requires.drive (g.O.Write.contents c.args.output.now) (g.O.Write.contents c.run_drive.new.output)
-    c.deref.result.now (subst R (sym c.deref.ensures.value) c.in_ok-read.ensures.file) c.deref-2.result.now
+    c.deref.result.now (subst R (sym c.deref.ensures.value) c.in_ok-read.ensures.file) c.conf_asked-conf.result c.conf_asked-conf.ensures c.deref-2.result.now
     (subst (AreKeys c.args.options.keys files) (sym c.deref-2.ensures.value) c.in_ok-read.ensures.keys) c.run_drive.result c.run_drive.ensures.err
 
 pub returns-in_err-read-clause-asks : goal.returns-in_err-read-clause-asks
@@ -50,6 +50,6 @@ returns-clause-asks g c =
     let asked = g.F.FileSource.asked in
     let options = c.args.options in
     let rules = rules_of options c.deref-2.result.now in
-    run_asks c.args.task c.deref.result.now (DrivesSome rules options.events) (DrivesAll rules options.events) (g.O.Write.contents c.args.output.now)
+    run_asks c.args.task c.conf_asked-conf.result c.deref.result.now (DrivesSome rules options.events) (DrivesAll rules options.events) (g.O.Write.contents c.args.output.now)
     (g.O.Write.contents c.run_drive.new.output) c.run_drive.result c.run_drive.ensures.err (image_files c.args.task.image.now ++ option_files options.keys)
     (asked c.args.files.now) (asked c.read_driven.new.files) c.in_ok-read.ensures.asks

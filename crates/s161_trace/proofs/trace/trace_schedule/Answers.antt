@@ -1,6 +1,8 @@
 use Rattle.std.proofs.Common.{◌≡◌, subst, sym, List, ℕ, IfSome}
 use Rattle.std.proofs.lemmas.Result.{err_from_is_err_and}
 use Rattle.s161_base.specs.Asked.{image_files}
+use Rattle.s161_base.specs.Known.{OfText}
+use Rattle.s161_base.specs.Listed.{ListsFor}
 use Rattle.s161_base.specs.Samples.{image_file}
 use Rattle.s161_base.specs.Streams.{streams}
 use Rattle.s161_trace.specs.Traces.{IsTraceFault}
@@ -26,9 +28,10 @@ returns-clause-ok g c =
     let files = g.F.FileSource.known c.args.files.now in
     let known = image_file files c.args.task.image.now in
     let R : List ℕ → Type 0 = λ file. IfSome known (λ bytes. file ≡ bytes) in
+    let L : List ℕ → Type 0 = λ file. OfText (g.I.Read.remaining c.args.input.now) (λ text. ListsFor c.args.task.size file text c.in_ok-read.read.1.events c.in_ok-read.read.1.conf) in
     schedule_ok c.args.task files known (g.I.Read.remaining c.args.input.now) (g.I.Read.remaining c.read_scheduled.new.input) c.requires
     (g.O.Write.contents c.args.output.now) (g.O.Write.contents c.run_schedule.new.output) c.deref.result.now
-    (subst R (sym c.deref.ensures.value) c.in_ok-read.ensures.file) c.in_ok-read.read.1 c.in_ok-read.ensures.events c.run_schedule.result
+    (subst R (sym c.deref.ensures.value) c.in_ok-read.ensures.file) c.in_ok-read.read.1.conf c.in_ok-read.read.1.events (subst L (sym c.deref.ensures.value) c.in_ok-read.ensures.events) c.run_schedule.result
     c.run_schedule.ensures.ok
 
 pub returns-clause-fault : goal.returns-clause-fault
@@ -36,9 +39,10 @@ returns-clause-fault g c =
     let files = g.F.FileSource.known c.args.files.now in
     let known = image_file files c.args.task.image.now in
     let R : List ℕ → Type 0 = λ file. IfSome known (λ bytes. file ≡ bytes) in
+    let L : List ℕ → Type 0 = λ file. OfText (g.I.Read.remaining c.args.input.now) (λ text. ListsFor c.args.task.size file text c.in_ok-read.read.1.events c.in_ok-read.read.1.conf) in
     schedule_bad c.args.task files known (g.I.Read.remaining c.args.input.now) (g.I.Read.remaining c.read_scheduled.new.input) c.requires
     (g.O.Write.contents c.args.output.now) (g.O.Write.contents c.run_schedule.new.output) c.deref.result.now
-    (subst R (sym c.deref.ensures.value) c.in_ok-read.ensures.file) c.in_ok-read.read.1 c.in_ok-read.ensures.events c.run_schedule.result
+    (subst R (sym c.deref.ensures.value) c.in_ok-read.ensures.file) c.in_ok-read.read.1.conf c.in_ok-read.read.1.events (subst L (sym c.deref.ensures.value) c.in_ok-read.ensures.events) c.run_schedule.result
     c.run_schedule.ensures.err
 
 pub returns-in_err-read-clause-asks : goal.returns-in_err-read-clause-asks
@@ -54,12 +58,12 @@ returns-in_err-read-clause-unread g c =
 pub returns-clause-asks : goal.returns-clause-asks
 returns-clause-asks g c =
     let asked = g.F.FileSource.asked in
-    let events = c.in_ok-read.read.1 in
-    run_asks c.args.task c.deref.result.now (MakesSome events) (MakesAll events) (g.O.Write.contents c.args.output.now) (g.O.Write.contents c.run_schedule.new.output)
+    let events = c.in_ok-read.read.1.events in
+    run_asks c.args.task c.in_ok-read.read.1.conf c.deref.result.now (MakesSome events) (MakesAll events) (g.O.Write.contents c.args.output.now) (g.O.Write.contents c.run_schedule.new.output)
     c.run_schedule.result c.run_schedule.ensures.err (image_files c.args.task.image.now) (asked c.args.files.now) (asked c.read_scheduled.new.files) c.in_ok-read.ensures.asks
 
 pub returns-clause-unread : goal.returns-clause-unread
 returns-clause-unread g c =
-    let events = c.in_ok-read.read.1 in
-    run_before c.args.task c.deref.result.now (MakesSome events) (MakesAll events) (g.O.Write.contents c.args.output.now) (g.O.Write.contents c.run_schedule.new.output)
+    let events = c.in_ok-read.read.1.events in
+    run_before c.args.task c.in_ok-read.read.1.conf c.deref.result.now (MakesSome events) (MakesAll events) (g.O.Write.contents c.args.output.now) (g.O.Write.contents c.run_schedule.new.output)
     c.run_schedule.result c.run_schedule.ensures.err (g.I.Read.remaining c.args.input.now) (g.I.Read.remaining c.read_scheduled.new.input)
