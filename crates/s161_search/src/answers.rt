@@ -183,7 +183,10 @@ pub(crate) fn print_answer(
         }
         Answer::Hung { events, states } => {
             let events = events_named(alloc, size.processors, keys, &events)?;
-            Ok(finished(wrong_lines(alloc, size, states, SearchVerdict::Hung, &events)?, 4))
+            Ok(finished(
+                wrong_lines(alloc, size, states, SearchVerdict::Hung, &events)?,
+                4,
+            ))
         }
         Answer::Open { size: most } => Ok(finished(open_line(alloc, limit, most)?, 6)),
         Answer::Ended(_) => unreachable!(),

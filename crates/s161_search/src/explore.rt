@@ -135,11 +135,5 @@ fn explore_from<'a>(
         return Err(Fault::Memory);
     }
     let found = explore_machine(alloc, &core, &goal, limit)?;
-    Ok(print_answer(
-        alloc,
-        search.size,
-        limit,
-        &inputs.keys,
-        found.answer,
-    )?)
+    Ok(print_answer(alloc, search.size, limit, &inputs.keys, found.answer)?)
 }

@@ -1,29 +1,32 @@
-use Rattle.std.proofs.Common.{◌≡◌, ◌∙◌, List, ℕ, [], ◌∷◌, Ok, Err, Option, IfSome, rules, subst, sym}
+use Rattle.std.proofs.Common.{◌≡◌, ◌∙◌, List, ℕ, [], ◌∷◌, false, Ok, Option, None, Some, IfSome, refl, rules, subst, sym}
 use Rattle.std.proofs.lemmas.Result.{err_from_is_err_and}
 use Rattle.m161_audit.specs.declared.watch.Watch.{Watch as Watched}
 use Rattle.m161_audit.specs.Audit.{Audits}
+use Rattle.m161_audit.specs.Watch.{AreGood, IsBad}
 use Rattle.m161_audit.specs.WatchText.{AreWatches}
+use Rattle.m161_machine.specs.declared.conf.BootError.TheVariants.{Load}
+use Rattle.m161_machine.specs.declared.conf.Conf.{Conf}
+use Rattle.m161_machine.specs.Conf.{is_within_limits}
 use Rattle.m161_machine.specs.History.{boot_fault}
 use Rattle.m161_text.specs.Lines.{lines_of}
-use Rattle.s161_base.proofs.Asking.{IsNoFile, asks_both, before_input, after_all, file_unread, image_unread, input_is_none, later, none_before, schedule_is_none}
+use Rattle.s161_base.proofs.Asking.{IsNoFile, asks_both, before_input, after_all, file_unread, image_unread, input_is_none, later, none_before}
 use Rattle.s161_base.specs.Asked.{image_files}
 use Rattle.s161_base.specs.Reading.{IsOfText}
 use Rattle.s161_base.specs.declared.fault.Fault.TheVariants.{Memory}
 use Rattle.s161_search.proofs.Asking.{audit_is_none}
 use Rattle.s161_search.proofs.Unaudited.{audit_failed, watches_failed}
-use Rattle.s161_base.proofs.Failing.{schedule_failed}
+use Rattle.s161_base.proofs.Listing.{unlisted_is_none}
+use Rattle.s161_run.proofs.Listing.{unlisted_by}
 use Rattle.s161_search.specs.Audits.{AreRefused, HasWatches, IsAuditFault, audit_files}
 use Rattle.s161_base.specs.Known.{IsText}
-use Rattle.s161_base.specs.Texts.{HasSchedule}
+use Rattle.s161_base.specs.Listed.{ListsFor, OfListed}
 use Rattle.s161_base.specs.Samples.{image_file}
-use Rattle.s161_base.specs.Sizes.{conf_of}
 use Rattle.s161_search.proofs.audit.audit.Goals as goal
 
 pub returns-clause-ok : goal.returns-clause-ok
 returns-clause-ok g c =
     let known = g.F.FileSource.known c.args.files.now in
     let image = image_file known c.args.task.image.now in
-    let text = known c.args.task.text.now in
     let input = g.I.Read.remaining c.args.input.now in
     let P : List ℕ → Type 0 = λ file. IfSome image (λ bytes. file ≡ bytes) in
     let Q : Option (List ℕ) → Type 0 = λ watches. IfSome watches (λ bytes. c.as_str.result.now ≡ bytes) in
@@ -34,27 +37,29 @@ returns-clause-ok g c =
     let is_schedule_text = subst T (sym c.as_str-2.ensures.value) c.in_ok-schedule.ensures.whole in
     let utf8_schedule = subst IsText (sym c.as_str-2.ensures.value) c.in_ok-schedule.schedule.ok in
     let S : List Watched → Type 0 = λ watched. AreWatches (lines_of c.as_str.result.now) watched in
+    let events = c.in_ok-run.run'.events in
+    let conf = c.in_ok-run.run'.conf in
+    let file = c.in_ok-file.file.items in
+    let A : List ℕ → Type 0 = λ file. Audits file conf (boot_fault file conf) events c.deref-3.result.now (Ok c.in-Ok.finding) in
     record {
-      file = c.deref.result.now;
-      is_file = subst P (sym c.deref.ensures.value) c.in_ok-file.ensures.whole;
+      file = file;
+      is_file = c.in_ok-file.ensures.whole;
       watches_text = c.as_str.result.now;
       is_file_of_watches = is_watches;
       is_text_of_watches = utf8_watches;
-      watched = c.deref-2.result.now;
-      are_watches = subst S (sym c.deref-2.ensures.value) c.in_ok-watches.ensures.found;
+      watched = c.deref-3.result.now;
+      are_watches = subst S (sym c.deref-3.ensures.value) c.in_ok-watches.ensures.found;
       schedule = c.as_str-2.result.now;
       is_input = is_schedule_text;
       is_text = utf8_schedule;
-      events = run.events;
-      conf = run.conf;
-      lists = subst (λ file. ListsFor c.args.task.size file c.as_str-2.result.now run.events run.conf) (c.deref-3.ensures.value ∙ sym c.deref.ensures.value) c.in_ok-run.ensures.ok;
+      events = events;
+      conf = conf;
+      lists = subst (λ file. ListsFor c.args.task.size file c.as_str-2.result.now events conf) c.deref.ensures.value c.in_ok-run.ensures.ok;
       finding = c.in-Ok.finding;
-      audits = c.in-Ok.ensures;
+      audits = subst A c.deref-2.ensures.value c.in-Ok.ensures;
       text_is = search rules;
       refused = c.in_ok-said.ensures.0;
-      are_refused = subst (λ file. AreRefused file (conf_of c.args.task.size) c.in_ok-events.events c.in-Ok.finding c.in_ok-said.ensures.0)
-          (c.deref-3.ensures.value ∙ sym c.deref.ensures.value)
-          (subst (λ conf. AreRefused c.deref-3.result.now conf c.in_ok-events.events c.in-Ok.finding c.in_ok-said.ensures.0) c.conf_of-conf.ensures c.in_ok-said.ensures.1);
+      are_refused = subst (λ file. AreRefused file conf events c.in-Ok.finding c.in_ok-said.ensures.0) c.deref-4.ensures.value c.in_ok-said.ensures.1;
       told_is = c.in_ok-said.ensures.2;
       status_is = c.status.ensures;
     }
@@ -73,23 +78,30 @@ returns-in_err-watches-clause-fault g c =
     (λ n bad. (c.as_str.result.now, is_watches, (utf8_watches, bad))) tt c.in_err-watches.ensures.fault in
     search (rules, failed)
 
-pub returns-in_err-events-clause-fault : goal.returns-in_err-events-clause-fault
-returns-in_err-events-clause-fault g c =
+pub returns-in_err-run-clause-fault : goal.returns-in_err-run-clause-fault
+returns-in_err-run-clause-fault g c =
     let known = g.F.FileSource.known c.args.files.now in
     let image = image_file known c.args.task.image.now in
     let text = known c.args.task.text.now in
     let input = g.I.Read.remaining c.args.input.now in
+    let P : List ℕ → Type 0 = λ file. IfSome image (λ bytes. file ≡ bytes) in
     let Q : Option (List ℕ) → Type 0 = λ watches. IfSome watches (λ bytes. c.as_str.result.now ≡ bytes) in
     let R : List ℕ → Type 0 = λ watches. IfSome (g.F.FileSource.known c.read_image.new.files c.args.task.text.now) (λ bytes. watches ≡ bytes) in
+    let is_file = subst P (sym c.deref.ensures.value) c.in_ok-file.ensures.whole in
     let is_watches = subst Q (c.in_ok-file.ensures.still c.args.task.text.now) (subst R (sym c.as_str.ensures.value) c.in_ok-text.ensures.whole) in
     let utf8_watches = subst IsText (sym c.as_str.ensures.value) c.in_ok-text.text.ok in
     let T : List ℕ → Type 0 = λ schedule. IfSome input (λ bytes. schedule ≡ bytes) in
-    let is_schedule_text = subst T (sym c.as_str-2.ensures.value) c.in_ok-schedule.ensures.whole in
-    let utf8_schedule = subst IsText (sym c.as_str-2.ensures.value) c.in_ok-schedule.schedule.ok in
+    let is = subst T (sym c.as_str-2.ensures.value) c.in_ok-schedule.ensures.whole in
+    let utf8 = subst IsText (sym c.as_str-2.ensures.value) c.in_ok-schedule.schedule.ok in
     let watches : HasWatches text = (c.as_str.result.now, is_watches, (utf8_watches, (c.in_ok-watches.watches.items, c.in_ok-watches.ensures.found, tt))) in
-    let failed = schedule_failed (IsAuditFault c.args.task image text input) c.as_str-2.result.now c.in_err-events.field-0.0
-    (λ n bad. (watches, (c.as_str-2.result.now, is_schedule_text, (utf8_schedule, bad)))) tt c.in_err-events.ensures.fault in
-    search (rules, failed)
+    let schedule = c.as_str-2.result.now in
+    let file = c.deref.result.now in
+    let made = err_from_is_err_and c.from_residual-in_err-run.result c.from_residual-in_err-run.ensures.1 in
+    rw (made.1, made.2)
+    (unlisted_by (IsAuditFault c.args.task image text input) c.args.task.size file schedule
+    (λ n bad. (watches, (schedule, is, (utf8, bad)))) (λ n bad. (watches, (schedule, is, (utf8, bad)))) tt
+    (λ none. (watches, (file, is_file, (schedule, is, (utf8, none))))) (λ none. (watches, (file, is_file, (schedule, is, (utf8, none)))))
+    c.in_err-run.field-0.0 c.in_err-run.ensures.fault)
 
 -- the watches and the schedule are read, and the audit's answer says the rest
 pub returns-in-Err-clause-fault : goal.returns-in-Err-clause-fault
@@ -104,21 +116,37 @@ returns-in-Err-clause-fault g c =
     let is_watches = subst Q (c.in_ok-file.ensures.still c.args.task.text.now) (subst R (sym c.as_str.ensures.value) c.in_ok-text.ensures.whole) in
     let utf8_watches = subst IsText (sym c.as_str.ensures.value) c.in_ok-text.text.ok in
     let T : List ℕ → Type 0 = λ schedule. IfSome input (λ bytes. schedule ≡ bytes) in
-    let is_schedule_text = subst T (sym c.as_str-2.ensures.value) c.in_ok-schedule.ensures.whole in
-    let utf8_schedule = subst IsText (sym c.as_str-2.ensures.value) c.in_ok-schedule.schedule.ok in
+    let is = subst T (sym c.as_str-2.ensures.value) c.in_ok-schedule.ensures.whole in
+    let utf8 = subst IsText (sym c.as_str-2.ensures.value) c.in_ok-schedule.schedule.ok in
     let S : List Watched → Type 0 = λ watched. AreWatches (lines_of c.as_str.result.now) watched in
-    let schedule : HasSchedule input = (c.as_str-2.result.now, is_schedule_text, (utf8_schedule, (c.in_ok-events.events, c.in_ok-events.ensures.found))) in
-    let watched = c.deref-2.result.now in
-    let are_watches = subst S (sym c.deref-2.ensures.value) c.in_ok-watches.ensures.found in
+    let schedule = c.as_str-2.result.now in
+    let events = c.in_ok-run.run'.events in
+    let conf = c.in_ok-run.run'.conf in
+    let file = c.deref-2.result.now in
+    let is_file = subst P (sym c.deref-2.ensures.value) c.in_ok-file.ensures.whole in
+    let lists = subst (λ file. ListsFor c.args.task.size file schedule events conf) (c.deref.ensures.value ∙ sym c.deref-2.ensures.value) c.in_ok-run.ensures.ok in
+    let listed : (IsSo : List ℕ → Conf → Type 0) → IsSo file conf → OfListed c.args.task.size image input IsSo =
+    λ IsSo so. (file, is_file, (schedule, is, (utf8, (events, conf, lists, so)))) in
+    let watched = c.deref-3.result.now in
+    let are_watches = subst S (sym c.deref-3.ensures.value) c.in_ok-watches.ensures.found in
     let watches : HasWatches text = (c.as_str.result.now, is_watches, (utf8_watches, (watched, are_watches, tt))) in
-    let answer = subst (λ conf. Audits c.deref.result.now conf (boot_fault c.deref.result.now conf) c.in_ok-events.events watched (Err c.in-Err.error)) c.conf_of-conf.ensures c.in-Err.ensures in
-    let failed = audit_failed (IsAuditFault c.args.task image text input) image (conf_of c.args.task.size) c.deref.result.now c.in_ok-events.events watched c.in-Err.error
-    (subst P (sym c.deref.ensures.value) c.in_ok-file.ensures.whole)
-    (λ outside. (watches, schedule, outside))
-    (λ e has. (watches, schedule, has))
+    let failed = audit_failed (IsAuditFault c.args.task image text input) (Some file) conf file events watched c.in-Err.error refl
+    (λ outside. (watches, listed (λ f k. is_within_limits k ≡ false) outside))
+    (λ e has. (watches, listed (λ f k. boot_fault f k ≡ Some (Load e)) (subst (λ f. boot_fault f conf ≡ Some (Load e)) has.1 has.2)))
     tt
-    (λ k has bad. ((c.as_str.result.now, is_watches, (utf8_watches, (watched, are_watches, bad))), schedule, has))
-    answer in
+    (λ k has bad. (
+      c.as_str.result.now,
+      is_watches,
+      (
+        utf8_watches,
+        (
+          watched,
+          are_watches,
+          listed (λ f x. (boot_fault f x ≡ None) × IsBad x.ram watched k × AreGood x.ram watched k) (subst (λ f. boot_fault f conf ≡ None) has.1 has.2, bad.0, bad.1),
+        ),
+      ),
+    ))
+    c.in-Err.ensures in
     subst (IsAuditFault c.args.task image text input) (sym c.fault_of_audit.ensures) failed
 
 pub returns-in_err-file-clause-asks : goal.returns-in_err-file-clause-asks
@@ -183,21 +211,21 @@ returns-in_err-watches-clause-unread g c =
     (none_before c.in_err-watches.field-0.0 (g.I.Read.remaining c.args.input.now) (g.I.Read.remaining c.read_input.new.input)
     (watches_failed IsNoFile c.as_str.result.now c.in_err-watches.field-0.0 (λ n bad. tt) tt c.in_err-watches.ensures.fault))
 
-pub returns-in_err-events-clause-asks : goal.returns-in_err-events-clause-asks
-returns-in_err-events-clause-asks g c =
+pub returns-in_err-run-clause-asks : goal.returns-in_err-run-clause-asks
+returns-in_err-run-clause-asks g c =
     let asked = g.F.FileSource.asked in
     let all = asks_both (image_files c.args.task.image.now) (c.args.task.text.now ∷ []) (asked c.args.files.now) (asked c.read_image.new.files) (asked c.read_text.new.files) c.in_ok-file.ensures.asks c.in_ok-text.ensures.asks in
-    let made = err_from_is_err_and c.from_residual-in_err-events.result c.from_residual-in_err-events.ensures.1 in
+    let made = err_from_is_err_and c.from_residual-in_err-run.result c.from_residual-in_err-run.ensures.1 in
     rw (made.1, made.2)
-    (after_all (audit_files c.args.task) (asked c.args.files.now) (asked c.read_text.new.files) c.in_err-events.field-0.0 all
-    (schedule_is_none c.as_str-2.result.now c.in_err-events.field-0.0 c.in_err-events.ensures.fault))
+    (after_all (audit_files c.args.task) (asked c.args.files.now) (asked c.read_text.new.files) c.in_err-run.field-0.0 all
+    (unlisted_is_none c.args.task.size c.deref.result.now c.as_str-2.result.now c.in_err-run.field-0.0 c.in_err-run.ensures.fault))
 
-pub returns-in_err-events-clause-unread : goal.returns-in_err-events-clause-unread
-returns-in_err-events-clause-unread g c =
-    let made = err_from_is_err_and c.from_residual-in_err-events.result c.from_residual-in_err-events.ensures.1 in
+pub returns-in_err-run-clause-unread : goal.returns-in_err-run-clause-unread
+returns-in_err-run-clause-unread g c =
+    let made = err_from_is_err_and c.from_residual-in_err-run.result c.from_residual-in_err-run.ensures.1 in
     rw (made.1, made.2)
-    (none_before c.in_err-events.field-0.0 (g.I.Read.remaining c.args.input.now) (g.I.Read.remaining c.read_input.new.input)
-    (schedule_is_none c.as_str-2.result.now c.in_err-events.field-0.0 c.in_err-events.ensures.fault))
+    (none_before c.in_err-run.field-0.0 (g.I.Read.remaining c.args.input.now) (g.I.Read.remaining c.read_input.new.input)
+    (unlisted_is_none c.args.task.size c.deref.result.now c.as_str-2.result.now c.in_err-run.field-0.0 c.in_err-run.ensures.fault))
 
 pub returns-in-Err-clause-asks : goal.returns-in-Err-clause-asks
 returns-in-Err-clause-asks g c =
