@@ -20,3 +20,4 @@ mod Learning
 mod Walking
 mod Naming
 mod Numbering
+mod Marking

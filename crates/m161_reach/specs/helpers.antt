@@ -3,5 +3,6 @@ pub mod Advance
 pub mod Handling
 pub mod MetFrom
 pub mod Onward
+pub mod Path
 pub mod Restore
 pub mod Walk

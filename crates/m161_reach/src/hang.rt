@@ -1,6 +1,6 @@
 //! Lists of events that hang.
 
-ghost use Rattle.std.specs.Prelude.{◌≡◌, ◌<◌, IfOk, MatchBool, MatchOption, option_map};
+ghost use Rattle.std.specs.Prelude.{◌≡◌, ◌<◌, true, IfOk, MatchBool, MatchOption, option_map};
 ghost use Rattle.m161_reach.specs.From.{IsFreeFrom, IsHungFrom, asked_of, no_time, with_known};
 ghost use Rattle.m161_reach.specs.Hangs.{GoesAlong, HangFirst, HangsNowhere, IsFirstHang, IsHungAt, IsLeastHang, NeverHang};
 ghost use Rattle.m161_reach.specs.Named.{numbers_of};
@@ -11,7 +11,8 @@ ghost use Rattle.m161_reach.specs.helpers.Walk.{HangsAlong};
 use crate::judge::is_end_of;
 use crate::machines::Machines;
 use crate::numbers::numbers_named;
-use crate::onward::Onward;
+use crate::onward::{Onward, copy_place};
+use crate::path::is_free_along;
 use crate::place::Place;
 use crate::walk::{Walk, walk_along};
 use m161_bus::Console;
@@ -58,7 +59,25 @@ fn says_hung(answer: &Answer<(), Unknown>, limit: u32) -> bool
     }
 }
 
-// Whether the state hangs to which these events lead.
+// Whether one path from the state to which these events lead shows that it doesn't hang.
+fn is_free_soon<'a, T: Tlb + Drop, D: Console + Drop>(
+    alloc: Global,
+    boot: &'a Core<T, D>,
+    goal: &'a Goal<'a>,
+    events: &[u32],
+    place: &Place<T, D>,
+    limit: u32,
+) -> Result<bool, AllocError>
+    requires asked { CanBeAsked boot.now.state goal.now }
+    requires from { place.now ≡ origin_of (asked_of boot.now.state goal.now) events.now }
+    ensures { IfOk result (λ free. free ≡ true → IsFreeFrom (asked_of boot.now.state goal.now) limit place.now) }
+{
+    let machines = untimed(alloc, boot, goal);
+    let mut copy = copy_place(alloc, place)?;
+    is_free_along(alloc, &machines, &mut copy, limit)
+}
+
+// Whether the state hangs to which these events lead: by a path from it, else by explorations.
 fn hangs_from<'a, T: Tlb + Drop, D: Console + Drop>(
     alloc: Global,
     boot: &'a Core<T, D>,
@@ -75,6 +94,10 @@ fn hangs_from<'a, T: Tlb + Drop, D: Console + Drop>(
         (IsFreeFrom (asked_of boot.now.state goal.now) limit place.now)) }
 {
     if is_end_of(goal, place) {
+        return Ok(false);
+    }
+    let free = is_free_soon(alloc, boot, goal, events, place, limit)?;
+    if free {
         return Ok(false);
     }
     boot.law();

@@ -23,6 +23,7 @@ mod machines;
 mod named;
 mod numbers;
 mod onward;
+mod path;
 mod place;
 mod question;
 mod restore;

@@ -44,6 +44,21 @@ static TAKES_A_KEY: [u32; 6] = [
     0xad00_7e08, // sw $0, 32264($8): off
 ];
 
+/// Counts in a register for ever: for each of 2^32 counts three states.
+static COUNTS: [u32; 3] = [
+    0x2508_0001, // addiu $8, $8, 1
+    0x1000_fffe, // beq $0, $0, to the instruction before
+    0, // nop
+];
+
+/// Counts to 255 again and again: for each of 256 counts four states.
+static COUNTS_A_BYTE: [u32; 4] = [
+    0x2508_0001, // addiu $8, $8, 1
+    0x3108_00ff, // andi $8, $8, 255
+    0x1000_fffd, // beq $0, $0, to the first instruction
+    0, // nop
+];
+
 /// Fails the test where a value isn't the expected one.
 fn same<T: PartialEq + Debug + Copy>(rt: &impl Abort, found: T, expected: T) {
     assert_eq!(rt; found, expected);
@@ -191,6 +206,28 @@ fn a_circle_hangs_from_boot_on(rt: HostRuntime) -> Result<(), Fail> {
 fn a_machine_that_is_over_does_not_hang(rt: HostRuntime) -> Result<(), Fail> {
     same(&rt, hang_of(&rt, &WAITS, &[], &[0], 100)?, None);
     same(&rt, hang_of(&rt, &SPINS, &[], &[1], 100)?, None);
+    Ok(())
+}
+
+#[test]
+fn many_states_along_one_path_are_enough(rt: HostRuntime) -> Result<(), Fail> {
+    same(&rt, hang_of(&rt, &COUNTS, &[], &[0], 1_000_000)?, None);
+    same(&rt, hang_of(&rt, &COUNTS_A_BYTE, &[], &[0], 1023)?, None);
+    Ok(())
+}
+
+#[test]
+fn a_path_that_comes_round_shows_nothing(rt: HostRuntime) -> Result<(), Fail> {
+    same(
+        &rt,
+        hang_of(&rt, &COUNTS_A_BYTE, &[], &[0, 0, 0], 1024)?,
+        Some(0),
+    );
+    same(
+        &rt,
+        hang_of(&rt, &COUNTS_A_BYTE, &[], &[0, 0, 0], 10_000)?,
+        Some(0),
+    );
     Ok(())
 }
 

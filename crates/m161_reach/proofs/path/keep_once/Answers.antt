@@ -1,0 +1,17 @@
+use Rattle.std.proofs.lemmas.List.Filters.{dedup_is}
+use Rattle.std.proofs.lemmas.List.Kept.{Contains-dedup_nat, Contains-from_dedup}
+use Rattle.std.proofs.lemmas.List.Sorted.{Contains-permutation, IsPermutation-sym}
+use Rattle.std.proofs.lemmas.Map.Keys.{IsStrictlyIncreasing-dedup}
+use Rattle.m161_reach.proofs.path.keep_once.Goals as goal
+
+pub returns-clause-rises : goal.returns-clause-rises
+returns-clause-rises c = rw (dedup_is _ _ _ c.dedup.ensures.filtered) (IsStrictlyIncreasing-dedup _ c.sort_unstable.ensures.sorted)
+
+pub returns-clause-keeps : goal.returns-clause-keeps
+returns-clause-keeps c = λ mark h.
+    rw (dedup_is _ _ _ c.dedup.ensures.filtered) (Contains-dedup_nat _ mark (Contains-permutation _ _ mark c.sort_unstable.ensures.permutation h))
+
+pub returns-clause-adds_none : goal.returns-clause-adds_none
+returns-clause-adds_none c = λ mark h.
+    Contains-permutation _ _ mark (IsPermutation-sym _ _ c.sort_unstable.ensures.permutation)
+    (Contains-from_dedup _ _ mark (rw (dedup_is _ _ _ c.dedup.ensures.filtered) at h))
