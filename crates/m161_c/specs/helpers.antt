@@ -1,3 +1,5 @@
 -- Definitions that only contracts of private functions, or proofs, use.
 pub mod Explored
+pub mod Seeking
+pub mod Telling
 pub mod Turns
