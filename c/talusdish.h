@@ -111,6 +111,24 @@ typedef struct {
     uint64_t events; /* how many of that run's events the verdict needs: so many bytes has the session; 0 where none goes wrong */
 } talusdish_sought;
 
+/* A class of lists of delays. A delay is a choice of an order by turns at which a ready processor is passed over; such choices, Steps where
+ * a processor is ready, are numbered from 0 along a run, and a number may stand in a list several times. */
+typedef struct {
+    uint32_t most;   /* how many delays a list has at most: 0 to 64 */
+    uint32_t from;   /* none comes before this choice */
+    uint32_t within; /* each comes before this one */
+} talusdish_class;
+
+/* What a search by talusdish_delays found. */
+typedef struct {
+    talusdish_verdict verdict; /* of the run of the first list that goes wrong; zeros where none does */
+    uint64_t right;  /* where none does: how many different runs there are, modulo 2^64; else 0 */
+    uint64_t cut;    /* of these: how many ended only because `n` events were made, modulo 2^64; else 0 */
+    uint64_t events; /* how many of the wrong run's events the verdict needs: so many bytes has the session; 0 where none goes wrong */
+    uint32_t count;  /* how many delays its list has; 0 where none goes wrong */
+    uint32_t delays[64]; /* these, the first `count` */
+} talusdish_sought_list;
+
 /* What an exploration found. */
 typedef struct {
     uint32_t kind;   /* TALUSDISH_CLEAN to TALUSDISH_OPEN */
@@ -176,7 +194,7 @@ enum {
     TALUSDISH_VERDICT_STUCK = 4,    /* nothing is left to do, and the console hasn't sent what is asked for, if anything is */
     TALUSDISH_VERDICT_OUTPUT = 5,   /* the machine is off, and the console hasn't sent what is asked for */
     TALUSDISH_VERDICT_END = 6,      /* output is asked for, the machine isn't off, and was never stuck; not of an exploration */
-    TALUSDISH_VERDICT_HUNG = 7      /* no order of events leads from here to an end; comes before END. Of talusdish_seeds and talusdish_hung alone:
+    TALUSDISH_VERDICT_HUNG = 7      /* no order of events leads from here to an end; comes before END. Of talusdish_seeds, talusdish_delays and talusdish_hung alone:
                                      * an exploration that finds such a list is TALUSDISH_HUNG, and has no verdict */
 };
 
@@ -306,6 +324,17 @@ uint8_t talusdish_seeds(talusdish_slot *slot, const uint8_t *file, size_t file_s
                         uint32_t hung, const uint8_t *keys, size_t keys_size, const talusdish_watch *watches, size_t watches_size,
                         const uint32_t *never, size_t never_size, bool asked, const uint8_t *output, size_t output_size,
                         talusdish_sought *found);
+
+/* The same by delays, as `s161 search --delays` does: every run by turns of `order->turns` Steps with the delays of a list of the class.
+ * Lists of which a delay has no effect, since no processor is left to pass over there, are left out: their runs are those of shorter ones.
+ * The lists are looked at in their order, shorter ones first and then those with smaller numbers, in this thread, up to the first whose
+ * run goes wrong; where none does, no list of the class has a run that goes wrong. What goes wrong, what the session's bytes are, and what
+ * is answered in which order is as of talusdish_seeds; but BAD, too, for another kind of order than TALUSDISH_TURNS and for more than 64
+ * delays. There are about P runs of one delay and P * P / 2 of two, where a run has P choices: `within` and few events bound them. */
+uint8_t talusdish_delays(talusdish_slot *slot, const uint8_t *file, size_t file_size, const talusdish_order *order, const talusdish_class *lists,
+                         uint64_t n, uint32_t hung, const uint8_t *keys, size_t keys_size, const talusdish_watch *watches, size_t watches_size,
+                         const uint32_t *never, size_t never_size, bool asked, const uint8_t *output, size_t output_size,
+                         talusdish_sought_list *found);
 
 /* Looks at every state that the machine can reach from its boot, whatever events it has made since, by any order of Steps, ends of
  * transfers and the `keys_size` keys in their order; as long as there are no more than `limit` states, which is at least 1. What goes

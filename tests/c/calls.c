@@ -531,6 +531,17 @@ static uint8_t seeds(talusdish_slot *slot, const uint8_t *file, size_t size, con
     return answer;
 }
 
+static uint8_t delays(talusdish_slot *slot, const uint8_t *file, size_t size, const talusdish_order *order, talusdish_class lists, uint64_t n,
+                      uint32_t few, const goal_of_run *goal, talusdish_sought_list *found) {
+    const char *output = goal->output ? goal->output : "";
+    uint8_t *keys = exact(goal->keys, strlen(goal->keys)), *sent = exact(output, strlen(output)), *own = exact(file, size);
+    uint8_t *watches = exact(goal->watch, goal->watches * sizeof *goal->watch), *never = exact(goal->never, goal->nevers * sizeof *goal->never);
+    uint8_t answer = talusdish_delays(slot, own, size, order, &lists, n, few, keys, strlen(goal->keys), (talusdish_watch *)(void *)watches, goal->watches,
+                                      (uint32_t *)(void *)never, goal->nevers, goal->output != NULL, sent, strlen(output), found);
+    free(keys), free(sent), free(own), free(watches), free(never);
+    return answer;
+}
+
 /* The session's bytes are an ELF file: it is booted, and stays in the buffer. */
 static uint8_t *boot_kept(talusdish_slot *slot, const char *text, talusdish_size conf, size_t *size) {
     talusdish_fault fault;
@@ -576,6 +587,63 @@ static void unsought(void) {
     CHECK(seeds(&slot, file, size, &order, 9, 0, 9, &goal, &found) == TALUSDISH_BAD_WATCH && hung(&slot, file, size, 9, &goal, &judgement) == TALUSDISH_BAD_WATCH);
     CHECK(talusdish_steps(&slot, 0, 3, &made) == 0 && hung(&slot, file, 51, 9, &goal, &judgement) == TALUSDISH_DROPPED);
     CHECK(memcmp(&found, &same, sizeof found) == 0 && memcmp(&judgement, &alike, sizeof judgement) == 0 && talusdish_length(&slot) == size);
+    free(file);
+    talusdish_close(&slot);
+}
+
+/* The same of a search by delays. */
+static void unlisted(void) {
+    talusdish_slot slot = {0};
+    talusdish_sought_list found, same;
+    memset(&found, 0x5a, sizeof found);
+    memcpy(&same, &found, sizeof found);
+    talusdish_order order = {TALUSDISH_RANDOM, 0, 0, 0, 0, 4, 0, false};
+    talusdish_class many = {65, 0, 9}, lists = {64, 0, 9};
+    goal_of_run goal = {"", NULL, {{64, 0, 0, 4}}, 1, {0, 0}, 0};
+    size_t size;
+    CHECK(delays(&slot, NULL, 0, &order, lists, 9, 9, &goal, &found) == TALUSDISH_NOTHING);
+    CHECK(talusdish_open(&slot) && delays(&slot, NULL, 0, &order, lists, 9, 9, &goal, &found) == TALUSDISH_NOTHING);
+    uint8_t *file = boot_kept(&slot, sum, small, &size);
+    CHECK(delays(&slot, file, 51, &order, lists, 9, 9, &goal, &found) == TALUSDISH_BAD);
+    order.kind = TALUSDISH_TURNS;
+    CHECK(delays(&slot, file, 51, &order, many, 9, 9, &goal, &found) == TALUSDISH_BAD);
+    CHECK(delays(&slot, file, 51, &order, lists, 9, 9, &goal, &found) == TALUSDISH_NO_TURN);
+    order.turns = 1;
+    CHECK(delays(&slot, file, 51, &order, lists, 9, 9, &goal, &found) == 2);
+    CHECK(delays(&slot, file, size, &order, lists, 9, 9, &goal, &found) == TALUSDISH_BAD_WATCH);
+    CHECK(memcmp(&found, &same, sizeof found) == 0 && talusdish_length(&slot) == size);
+    free(file);
+    talusdish_close(&slot);
+}
+
+/* What is expected is what `s161 search --delays` prints of these kernels. */
+static void listed(void) {
+    talusdish_slot slot = {0};
+    talusdish_sought_list found;
+    talusdish_order order = {TALUSDISH_TURNS, 50, 0, 0, 0, 4, 0, false};
+    talusdish_size two = {65536, 2, 16, false, false};
+    talusdish_class all = {2, 0, 16777216}, first = {2, 0, 9}, last = {2, 30, 16777216}, middle = {3, 12, 14}, none = {0, 0, 16777216};
+    goal_of_run goal = {"", NULL, {{0, 0, 0, 0}}, 0, {0, 0}, 0};
+    size_t size;
+    CHECK(talusdish_open(&slot));
+    uint8_t *file = boot_kept(&slot, race, two, &size);
+    CHECK(delays(&slot, file, size, &order, all, 10000, 9999, &goal, &found) == 0 && found.verdict.kind == TALUSDISH_VERDICT_STUCK);
+    CHECK(found.count == 1 && found.delays[0] == 11 && found.events == 39 && found.right == 0 && found.cut == 0);
+    CHECK(has_events(&slot, "000000000001111111111111100000000000000") && talusdish_made(&slot) == 0);
+    CHECK(delays(&slot, file, size, &order, middle, 10000, 9999, &goal, &found) == 0 && found.verdict.kind == TALUSDISH_VERDICT_STUCK);
+    CHECK(found.count == 1 && found.delays[0] == 12 && found.events == 39 && has_events(&slot, "000000000000111111111111110000000000000"));
+    CHECK(delays(&slot, file, size, &order, first, 10000, 9999, &goal, &found) == 0 && found.verdict.kind == TALUSDISH_VERDICT_NONE);
+    CHECK(found.right == 4 && found.cut == 0 && found.count == 0 && found.events == 0 && has_events(&slot, ""));
+    CHECK(delays(&slot, file, size, &order, last, 10000, 9999, &goal, &found) == 0 && found.verdict.kind == TALUSDISH_VERDICT_NONE && found.right == 1);
+    CHECK(delays(&slot, file, size, &order, none, 10000, 9999, &goal, &found) == 0 && found.verdict.kind == TALUSDISH_VERDICT_NONE && found.right == 1);
+    free(file);
+    file = boot_kept(&slot, spin, small, &size);
+    CHECK(delays(&slot, file, size, &order, all, 9, 2, &goal, &found) == 0 && found.verdict.kind == TALUSDISH_VERDICT_HUNG && found.events == 0);
+    CHECK(delays(&slot, file, size, &order, all, 9, 1, &goal, &found) == 0 && found.verdict.kind == TALUSDISH_VERDICT_NONE);
+    CHECK(found.right == 1 && found.cut == 1);
+    goal.output = "x";
+    CHECK(delays(&slot, file, size, &order, all, 9, 1, &goal, &found) == 0 && found.verdict.kind == TALUSDISH_VERDICT_END && found.events == 9);
+    CHECK(found.count == 0 && has_events(&slot, "000000000"));
     free(file);
     talusdish_close(&slot);
 }
@@ -908,6 +976,8 @@ int main(void) {
     explorations();
     judgements();
     unsought();
+    unlisted();
+    listed();
     hangs();
     seeks();
     links_and_conflicts();

@@ -2,6 +2,7 @@
 
 ghost use Rattle.std.specs.Prelude.{◌≡◌, None, map};
 ghost use Rattle.m161_judge.specs.Judge.{bytes_of as bytes_of_output};
+ghost use Rattle.m161_c.specs.Delays.{SeeksListsAs};
 ghost use Rattle.m161_c.specs.Explored.{ExploresAs, criteria_of, output_in, watch_of};
 ghost use Rattle.m161_c.specs.Judged.{AuditsAs, JudgesAs};
 ghost use Rattle.m161_c.specs.Runs.{AtSlot, machine_of};
@@ -10,7 +11,9 @@ ghost use Rattle.m161_c.specs.Seeds.{SeeksAs, asked_with};
 ghost use Rattle.m161_c.specs.Hung.{HungAs};
 
 use crate::NOTHING;
-use crate::answer::{Exploration, Goal, Judgement, OrderNumbers, Sought, WatchNumbers};
+use crate::answer::{
+    ClassNumbers, Exploration, Goal, Judgement, OrderNumbers, Sought, SoughtList, WatchNumbers,
+};
 use crate::handle::Slot;
 use std::alloc::Global;
 
@@ -86,6 +89,43 @@ pub extern "C" fn talusdish_seeds(
     let output = output_of(asked, output);
     let answer = session.seek(
         alloc, file, order, n, count, few, keys, watches, never, output, found,
+    );
+    slot.put(alloc, session);
+    answer
+}
+
+/// Looks for a run that goes wrong among all those by turns with the delays of a class, as
+/// `s161 search --delays` does: at the useful lists of the class, in their order, in this thread. What goes
+/// wrong, what a run begins at and what becomes of the session is as in `talusdish_seeds`. 0, and what was
+/// found is told; else the first of these: 253 for another order than turns or a class of more than 64
+/// delays; 18 for the order; and then as there.
+#[unsafe(no_mangle)]
+pub extern "C" fn talusdish_delays(
+    alloc: Global,
+    slot: &mut Slot,
+    file: &[u8],
+    order: &OrderNumbers,
+    class: &ClassNumbers,
+    n: u64,
+    few: u32,
+    keys: &[u8],
+    watches: &[WatchNumbers],
+    never: &[u32],
+    asked: bool,
+    output: &[u8],
+    found: &mut SoughtList,
+) -> u8
+    ensures run { AtSlot slot.old.handle.session result slot.new.handle.session (SeeksListsAs
+        (asked_with file.now order.now n (criteria_of keys.now watches.now never.now (output_in asked output.now)) few)
+        class.now result found.old found.new) }
+    ensures none { slot.old.handle.session ≡ None → found.new ≡ found.old }
+{
+    let Some(mut session) = slot.take(alloc) else {
+        return NOTHING;
+    };
+    let output = output_of(asked, output);
+    let answer = session.seek_lists(
+        alloc, file, order, class, n, few, keys, watches, never, output, found,
     );
     slot.put(alloc, session);
     answer

@@ -98,8 +98,8 @@ fn seeded(k: u64, order: Order) -> Order
     }
 }
 
-// The policy of a run. The order has no fault, so one that has is told as memory.
-fn policy_of<'a>(
+/// The policy of a run. The order has no fault, so one that has is told as memory.
+pub(crate) fn policy_of<'a>(
     numbers: &OrderNumbers,
     order: Order,
     keys: &'a [u8],
@@ -112,8 +112,8 @@ fn policy_of<'a>(
     }
 }
 
-// Makes and judges the run by an order.
-fn make_run(
+/// Makes and judges the run by an order.
+pub(crate) fn make_run(
     alloc: Global,
     booted: &Booted<Tlb, Console>,
     ends: &Machines<'_, Tlb, Console>,
