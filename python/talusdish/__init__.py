@@ -21,12 +21,12 @@ from ._judging import (
 from ._machine import (
     Conflict, Console, Doing, Entries, Entry, Image, Kind, Machine, Memory, Outcome, Processor, Processors, Run, Stop, assemble, explore, search,
 )
-from ._orders import Order, Priorities, Random, Seeded, Turns
+from ._orders import Delayed, Delays, Order, Priorities, Random, Seeded, Turns
 from ._trace import TraceLine
 
 __all__ = [
     "AllRight", "AssemblyError", "BadConf", "BadEntry", "BadHeaderTable", "BadProcessor", "BadWatch", "BootError", "Clean",
-    "Conflict", "Console", "Doing", "Dropped", "Entries", "Entry", "Event", "Explored", "FileLargerThanMemory", "Found",
+    "Conflict", "Console", "Delayed", "Delays", "Doing", "Dropped", "Entries", "Entry", "Event", "Explored", "FileLargerThanMemory", "Found",
     "GoalError", "Hung", "Image", "Judgement", "KeyFull", "Kind", "Machine", "Made", "Memory", "NoStretch", "NoTurn",
     "NotElf32Big", "NotExecutable", "NotMips", "NothingSent", "Off", "Open", "Order", "OrderError", "Outcome", "Priorities",
     "Processor", "Processors", "Random", "Refusal", "Run", "Searched", "Seeded", "SegmentOutsideFile", "SegmentOutsideRam",

@@ -8,7 +8,7 @@ from enum import Enum
 from typing import Any, Iterable, Optional, Sequence, Tuple, Union
 
 from ._library import JudgementNumbers, VerdictNumbers, WatchNumbers
-from ._orders import Order, within
+from ._orders import Delayed, Order, within
 
 
 class Event(Enum):
@@ -81,9 +81,9 @@ class AllRight:
 @dataclass(frozen=True)
 class WrongRun:
     """The first run that goes wrong: its `order`, its `verdict`, and the `events` that this needs, the first of the run. So many runs
-    before it don't go wrong (`right`), of which so many are `cut`."""
+    before it don't go wrong (`right`), of which so many are `cut`; by delays both are 0."""
 
-    order: Order
+    order: Union[Order, Delayed]
     verdict: Verdict
     events: Sequence[Made]
     right: int

@@ -5,7 +5,7 @@ from pathlib import Path
 
 import talusdish
 from talusdish import (
-    AllRight, Clean, Event, Found, Hung, Judgement, Machine, Open, Priorities, Random, Stop, Turns, Verdict, Watch, Wrong, WrongRun, assemble,
+    AllRight, Clean, Delayed, Delays, Event, Found, Hung, Judgement, Machine, Open, Priorities, Random, Stop, Turns, Verdict, Watch, Wrong, WrongRun, assemble,
     explore, search,
 )
 
@@ -105,6 +105,24 @@ class Searching(unittest.TestCase):
         self.assertEqual(search(assemble(SPIN), ram=4096, events=50, runs=3, hung=1, output=b"").verdict, Verdict(Wrong.END))
         self.assertEqual(search(assemble(SPIN), ram=4096, events=50, runs=3, output=b"").verdict, Verdict(Wrong.HUNG))
 
+    def test_delays(self):
+        found = self.small("lost-update", order=Delays(2))
+        self.assertEqual((found.order, found.verdict), (Delayed(50, (11,)), Verdict(Wrong.STUCK)))
+        machine = Machine(lab("lost-update"), ram=28672, cpus=2)
+        machine.make(found.events)
+        self.assertEqual((machine.run().stop, machine.memory[0x1000]), (Stop.STUCK, 1))
+        self.assertEqual(self.small("lost-update", order=Delays(2, 7)).order, Delayed(7, (11,)))
+        for lists, runs in (
+            (Delays(2), 277), (Delays(2, within=30), 221), (Delays(2, first=20), 61), (Delays(1, 3), 34), (Delays(0), 1), (Delays(2, first=9, within=9), 1),
+        ):
+            with self.subTest(lists):
+                self.assertEqual(self.small("lost-update-fixed", order=lists), AllRight(runs, 0))
+        found = self.small("two-locks", order=Delays(2))
+        self.assertEqual((found.order, found.verdict), (Delayed(50, (12,)), Verdict(Wrong.HUNG)))
+        self.assertEqual(found.events[:15], ((Event.STEP, 0),) * 12 + ((Event.STEP, 1),) * 3)
+        self.assertEqual(self.small("two-locks", order=Delays(1), hung=0), AllRight(26, 6))
+        self.assertEqual(self.small("two-locks", order=Delays(0)), AllRight(1, 0))
+
     def test_slices(self):
         told = []
         self.assertEqual(self.small("lost-update-fixed", progress=told.append, at_once=30), AllRight(100, 0))
@@ -131,7 +149,7 @@ class Searching(unittest.TestCase):
         for wrong, options in (
             (talusdish.NoTurn, {"order": Turns(0)}), (talusdish.NoStretch, {"order": Priorities(0, 1, 0)}),
             (talusdish.BadWatch, {"watches": [Watch(0, 0, 4, 4)]}), (talusdish.BadConf, {"ram": 5}), (ValueError, {"at_once": 0}),
-            (ValueError, {"runs": -1}), (ValueError, {"hung": 2**32}), (ValueError, {"events": -1}),
+            (ValueError, {"runs": -1}), (ValueError, {"order": Delays(65)}), (talusdish.NoTurn, {"order": Delays(1, 0)}), (ValueError, {"hung": 2**32}), (ValueError, {"events": -1}),
         ):
             with self.subTest(wrong), self.assertRaises(wrong):
                 search(image, **options)
