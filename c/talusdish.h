@@ -317,7 +317,7 @@ uint8_t talusdish_search(talusdish_slot *slot, const talusdish_order *order, con
  * become the session's bytes, each a byte as of talusdish_explore, and none where none does. (The command shortens them; here they are
  * the run's first ones.) Else nothing is changed or told, and the answer is the first of these that holds: BAD, NO_TURN to
  * TOO_MANY_CHANGES for an order that can't be followed; what talusdish_boot answers of a file that can't be booted; BAD_WATCH; BAD for
- * 2^31 watches, or 2^32 keys or bytes of output. Behind the order it may be NO_MEMORY instead. It takes a machine's RAM five times, and
+ * 2^31 watches, or 2^32 keys or bytes of output. Behind the order it may be NO_MEMORY instead. It takes a machine's RAM a few times, and
  * what `hung` states take, as in talusdish_explore. A caller that isn't to be held up has few seeds a call: where none
  * went wrong it goes on with `order->seed` larger by `count`, and call by call the runs are those of one call. */
 uint8_t talusdish_seeds(talusdish_slot *slot, const uint8_t *file, size_t file_size, const talusdish_order *order, uint64_t n, uint64_t count,

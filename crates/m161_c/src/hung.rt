@@ -2,7 +2,7 @@
 
 ghost use Rattle.std.specs.Prelude.{◌≡◌, Err, IfErr, IfOk, Ok, Some};
 ghost use Rattle.m161_judge.specs.Judge.{bytes_of};
-ghost use Rattle.m161_machine.specs.History.{boot_fault, events_of};
+ghost use Rattle.m161_machine.specs.History.{boot_fault};
 ghost use Rattle.m161_c.specs.Explored.{criteria_of};
 ghost use Rattle.m161_c.specs.Told.{IsTold};
 ghost use Rattle.m161_c.specs.Hung.{TellsBooted, TellsFrom, TellsVerdict, HungAs};

@@ -1,6 +1,6 @@
 //! Searches over lists of delays, and what is told of them.
 
-ghost use Rattle.std.specs.Prelude.{◌≡◌, ◌++◌, ◌≤◌, ℕ, Err, IfErr, IfOk, IfSome, None, Ok, length, replicate, take};
+ghost use Rattle.std.specs.Prelude.{◌≡◌, ◌≤◌, ℕ, Err, IfErr, IfOk, IfSome, None, Ok, take};
 ghost use Rattle.m161_delays.specs.declared.search.Class.{Class as ClassValue};
 ghost use Rattle.m161_judge.specs.Judge.{bytes_of};
 ghost use Rattle.m161_order.specs.Delays.{delays_of};
