@@ -90,7 +90,7 @@ typedef struct {
 
 /* What is wrong with a list of events. What isn't named is 0. */
 typedef struct {
-    uint32_t kind;      /* TALUSDISH_VERDICT_NONE to TALUSDISH_VERDICT_END */
+    uint32_t kind;      /* TALUSDISH_VERDICT_NONE to TALUSDISH_VERDICT_HUNG */
     uint32_t processor; /* stale, reached, conflict */
     uint32_t address;   /* stale, reached: the virtual address in bytes */
     uint32_t row;       /* stale: the old row of its TLB, 0 to 63; conflict: the row that it was to write */
@@ -102,6 +102,32 @@ typedef struct {
     talusdish_verdict verdict;
     uint64_t events; /* stale, reached: the last of these is the Step that is it */
 } talusdish_judgement;
+
+/* What a search by talusdish_seeds found. */
+typedef struct {
+    talusdish_verdict verdict; /* of the first run that goes wrong, which is that of the seed `order->seed + right`; zeros where none does */
+    uint64_t right;  /* how many runs don't go wrong: all before that one */
+    uint64_t cut;    /* how many of these ended only because `n` events were made: of what may come behind them nothing is known */
+    uint64_t events; /* how many of that run's events the verdict needs: so many bytes has the session; 0 where none goes wrong */
+} talusdish_sought;
+
+/* A class of lists of delays. A delay is a choice of an order by turns at which a ready processor is passed over; such choices, Steps where
+ * a processor is ready, are numbered from 0 along a run, and a number may stand in a list several times. */
+typedef struct {
+    uint32_t most;   /* how many delays a list has at most: 0 to 64 */
+    uint32_t from;   /* none comes before this choice */
+    uint32_t within; /* each comes before this one */
+} talusdish_class;
+
+/* What a search by talusdish_delays found. */
+typedef struct {
+    talusdish_verdict verdict; /* of the run of the first list that goes wrong; zeros where none does */
+    uint64_t right;  /* where none does: how many different runs there are, modulo 2^64; else 0 */
+    uint64_t cut;    /* of these: how many ended only because `n` events were made, modulo 2^64; else 0 */
+    uint64_t events; /* how many of the wrong run's events the verdict needs: so many bytes has the session; 0 where none goes wrong */
+    uint32_t count;  /* how many delays its list has; 0 where none goes wrong */
+    uint32_t delays[64]; /* these, the first `count` */
+} talusdish_sought_list;
 
 /* What an exploration found. */
 typedef struct {
@@ -167,7 +193,9 @@ enum {
     TALUSDISH_VERDICT_CONFLICT = 3, /* a strict machine was to write a row that overlaps another one */
     TALUSDISH_VERDICT_STUCK = 4,    /* nothing is left to do, and the console hasn't sent what is asked for, if anything is */
     TALUSDISH_VERDICT_OUTPUT = 5,   /* the machine is off, and the console hasn't sent what is asked for */
-    TALUSDISH_VERDICT_END = 6       /* output is asked for, the machine isn't off, and was never stuck; not of an exploration */
+    TALUSDISH_VERDICT_END = 6,      /* output is asked for, the machine isn't off, and was never stuck; not of an exploration */
+    TALUSDISH_VERDICT_HUNG = 7      /* no order of events leads from here to an end; comes before END. Of talusdish_seeds, talusdish_delays and talusdish_hung alone:
+                                     * an exploration that finds such a list is TALUSDISH_HUNG, and has no verdict */
 };
 
 enum {
@@ -274,9 +302,40 @@ uint8_t talusdish_lines(talusdish_slot *slot, const talusdish_order *order, cons
  * this order, up to the first that doesn't end right; the session stays as it is. 0 where one ends wrong; ALL_RIGHT where
  * none does; NO_TURN to TOO_MANY_CHANGES, BAD or NO_MEMORY where one isn't made. `right` is how many end right before it:
  * the wrong run is that of the seed `order->seed + right`, and talusdish_drive or talusdish_trace with that seed makes it. A
- * copy takes the machine's RAM once. */
+ * copy takes the machine's RAM once. A caller that isn't to be held up has few seeds a call, and goes on behind ALL_RIGHT with
+ * `order->seed` larger by `count`: call by call, the runs are those of one call. */
 uint8_t talusdish_search(talusdish_slot *slot, const talusdish_order *order, const uint8_t *keys, size_t size, uint64_t n, uint64_t count,
                          const talusdish_goal *goal, uint64_t *right);
+
+/* Looks for a run that goes wrong, as `s161 search --seeds` does. The runs are those that the order chooses with `count` seeds, its own
+ * and those behind it (modulo 2^64), each of at most `n` events from the boot of this `file` on a machine of the size and the modes of
+ * the session's; that one stays as it is, whatever it has done. What goes wrong is what talusdish_judge says, where the keys are those
+ * of the runs; and a run that was cut at its `n` events and has no verdict yet, or END, is HUNG if no order of events leads from its
+ * end to an end (the machine off, or nothing left to do and the output sent), and those that there are lead to at most `hung` different
+ * states; nothing is looked at with 0. `s161 search` has 10,000. The runs are made in the order of the seeds, in this thread, up to the
+ * first that goes wrong. 0, and what was found is told, both where one goes wrong and where none does; the events that its verdict needs
+ * become the session's bytes, each a byte as of talusdish_explore, and none where none does. (The command shortens them; here they are
+ * the run's first ones.) Else nothing is changed or told, and the answer is the first of these that holds: BAD, NO_TURN to
+ * TOO_MANY_CHANGES for an order that can't be followed; what talusdish_boot answers of a file that can't be booted; BAD_WATCH; BAD for
+ * 2^31 watches, or 2^32 keys or bytes of output. Behind the order it may be NO_MEMORY instead. It takes a machine's RAM a few times, and
+ * what `hung` states take, as in talusdish_explore. A caller that isn't to be held up has few seeds a call: where none
+ * went wrong it goes on with `order->seed` larger by `count`, and call by call the runs are those of one call. */
+uint8_t talusdish_seeds(talusdish_slot *slot, const uint8_t *file, size_t file_size, const talusdish_order *order, uint64_t n, uint64_t count,
+                        uint32_t hung, const uint8_t *keys, size_t keys_size, const talusdish_watch *watches, size_t watches_size,
+                        const uint32_t *never, size_t never_size, bool asked, const uint8_t *output, size_t output_size,
+                        talusdish_sought *found);
+
+/* The same by delays, as `s161 search --delays` does: every run by turns of `order->turns` Steps with the delays of a list of the class.
+ * Lists of which a delay has no effect, since no processor is left to pass over there, are left out: their runs are those of shorter ones.
+ * The lists are looked at in their order, shorter ones first and then those with smaller numbers, in this thread, up to the first whose
+ * run goes wrong; where none does, no list of the class has a run that goes wrong. What goes wrong, what the session's bytes are, and what
+ * is answered in which order is as of talusdish_seeds; but BAD, too, for another kind of order than TALUSDISH_TURNS and for more than 64
+ * delays. There are about P runs of one delay and P * P / 2 of two, where a run has P choices: `within` and few events bound them. It takes
+ * some 3 KB of stack for each delay of a list, beside about 100 KB. */
+uint8_t talusdish_delays(talusdish_slot *slot, const uint8_t *file, size_t file_size, const talusdish_order *order, const talusdish_class *lists,
+                         uint64_t n, uint32_t hung, const uint8_t *keys, size_t keys_size, const talusdish_watch *watches, size_t watches_size,
+                         const uint32_t *never, size_t never_size, bool asked, const uint8_t *output, size_t output_size,
+                         talusdish_sought_list *found);
 
 /* Looks at every state that the machine can reach from its boot, whatever events it has made since, by any order of Steps, ends of
  * transfers and the `keys_size` keys in their order; as long as there are no more than `limit` states, which is at least 1. What goes
@@ -314,6 +373,15 @@ uint8_t talusdish_audit(talusdish_slot *slot, const talusdish_watch *watches, si
 uint8_t talusdish_judge(talusdish_slot *slot, const uint8_t *file, size_t file_size, const uint8_t *keys, size_t keys_size,
                         const talusdish_watch *watches, size_t watches_size, const uint32_t *never, size_t never_size, bool asked,
                         const uint8_t *output, size_t output_size, talusdish_judgement *judgement);
+
+/* The same with the verdict HUNG, which comes before END: the machine is off or stuck behind none of the events, and from the last one
+ * no order of events leads to an end (the machine off, or nothing left to do and the output sent); those that there are lead to at most
+ * `hung` different states. With 0 it isn't looked at. `judgement->events` is then how many of the first events hang already. Where
+ * it isn't DROPPED, a file that can't be booted or BAD_WATCH, the answer may also be BAD, for 2^31 watches, or 2^32 keys or bytes of
+ * output. The session stays as it is. */
+uint8_t talusdish_hung(talusdish_slot *slot, const uint8_t *file, size_t file_size, uint32_t hung, const uint8_t *keys, size_t keys_size,
+                       const talusdish_watch *watches, size_t watches_size, const uint32_t *never, size_t never_size, bool asked,
+                       const uint8_t *output, size_t output_size, talusdish_judgement *judgement);
 
 /* Shows a processor. False where there is no such one: nothing is told then. */
 bool talusdish_processor(talusdish_slot *slot, uint32_t p, talusdish_processor_view *view);

@@ -16,20 +16,20 @@ from ._errors import (
     TooManyChanges, Truncated, Worn,
 )
 from ._judging import (
-    Clean, Event, Explored, Found, Hung, Judgement, Made, Open, Verdict, Watch, Wrong,
+    AllRight, Clean, Event, Explored, Found, Hung, Judgement, Made, Open, Searched, Verdict, Watch, Wrong, WrongRun,
 )
 from ._machine import (
-    Conflict, Console, Doing, Entries, Entry, Image, Kind, Machine, Memory, Outcome, Processor, Processors, Run, Stop, assemble, explore,
+    Conflict, Console, Doing, Entries, Entry, Image, Kind, Machine, Memory, Outcome, Processor, Processors, Run, Stop, assemble, explore, search,
 )
-from ._orders import Order, Priorities, Random, Seeded, Turns
+from ._orders import Delayed, Delays, Order, Priorities, Random, Seeded, Turns
 from ._trace import TraceLine
 
 __all__ = [
-    "AssemblyError", "BadConf", "BadEntry", "BadHeaderTable", "BadProcessor", "BadWatch", "BootError", "Clean",
-    "Conflict", "Console", "Doing", "Dropped", "Entries", "Entry", "Event", "Explored", "FileLargerThanMemory", "Found",
+    "AllRight", "AssemblyError", "BadConf", "BadEntry", "BadHeaderTable", "BadProcessor", "BadWatch", "BootError", "Clean",
+    "Conflict", "Console", "Delayed", "Delays", "Doing", "Dropped", "Entries", "Entry", "Event", "Explored", "FileLargerThanMemory", "Found",
     "GoalError", "Hung", "Image", "Judgement", "KeyFull", "Kind", "Machine", "Made", "Memory", "NoStretch", "NoTurn",
     "NotElf32Big", "NotExecutable", "NotMips", "NothingSent", "Off", "Open", "Order", "OrderError", "Outcome", "Priorities",
-    "Processor", "Processors", "Random", "Refusal", "Run", "Seeded", "SegmentOutsideFile", "SegmentOutsideRam",
-    "Stop", "TalusdishError", "TooManyChanges", "TraceLine", "Truncated", "Turns", "Verdict", "Watch", "Worn", "Wrong",
-    "assemble", "explore",
+    "Processor", "Processors", "Random", "Refusal", "Run", "Searched", "Seeded", "SegmentOutsideFile", "SegmentOutsideRam",
+    "Stop", "TalusdishError", "TooManyChanges", "TraceLine", "Truncated", "Turns", "Verdict", "Watch", "Worn", "Wrong", "WrongRun",
+    "assemble", "explore", "search",
 ]

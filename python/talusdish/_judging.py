@@ -8,7 +8,7 @@ from enum import Enum
 from typing import Any, Iterable, Optional, Sequence, Tuple, Union
 
 from ._library import JudgementNumbers, VerdictNumbers, WatchNumbers
-from ._orders import within
+from ._orders import Delayed, Order, within
 
 
 class Event(Enum):
@@ -37,21 +37,22 @@ class Watch:
 
 
 class Wrong(Enum):
-    """How a list of events goes wrong. Of the kinds that hold, the first one is the verdict."""
+    """How a list of events goes wrong. Of the kinds that hold, the first one is the verdict. The values are the numbers of talusdish.h."""
 
     STALE = 1
     REACHED = 2
     CONFLICT = 3
     STUCK = 4
     OUTPUT = 5
+    HUNG = 7
     END = 6
 
 
 @dataclass(frozen=True)
 class Verdict:
     """What is wrong: a `STALE` use (`processor`, virtual `address`, `row`), a `REACHED` address (`processor`, `address`), a
-    `CONFLICT` (`processor`, `row`, `other` row), `STUCK`, another `OUTPUT`, or no `END`: the machine is neither off nor stuck. What has no
-    meaning is 0."""
+    `CONFLICT` (`processor`, `row`, `other` row), `STUCK`, another `OUTPUT`, `HUNG`: no order of events leads to an end any more, or no `END`:
+    the machine is neither off nor stuck. What has no meaning is 0."""
 
     wrong: Wrong
     processor: int = 0
@@ -67,6 +68,29 @@ class Judgement:
 
     verdict: Verdict
     events: int
+
+
+@dataclass(frozen=True)
+class AllRight:
+    """None of so many `runs` goes wrong. So many of them are `cut`: they ended only because no more events were asked for."""
+
+    runs: int
+    cut: int
+
+
+@dataclass(frozen=True)
+class WrongRun:
+    """The first run that goes wrong: its `order`, its `verdict`, and the `events` that this needs, the first of the run. So many runs
+    before it don't go wrong (`right`), of which so many are `cut`; by delays both are 0."""
+
+    order: Union[Order, Delayed]
+    verdict: Verdict
+    events: Sequence[Made]
+    right: int
+    cut: int
+
+
+Searched = Union[AllRight, WrongRun]
 
 
 @dataclass(frozen=True)

@@ -51,6 +51,21 @@ class JudgementNumbers(c.Structure):
     _fields_ = [("verdict", VerdictNumbers), ("events", c.c_uint64)]
 
 
+class Sought(c.Structure):
+    _fields_ = [("verdict", VerdictNumbers), ("right", c.c_uint64), ("cut", c.c_uint64), ("events", c.c_uint64)]
+
+
+class ClassNumbers(c.Structure):
+    _fields_ = [("most", c.c_uint32), ("from_", c.c_uint32), ("within", c.c_uint32)]
+
+
+class SoughtList(c.Structure):
+    _fields_ = [
+        ("verdict", VerdictNumbers), ("right", c.c_uint64), ("cut", c.c_uint64), ("events", c.c_uint64), ("count", c.c_uint32),
+        ("delays", c.c_uint32 * 64),
+    ]
+
+
 class Exploration(c.Structure):
     _fields_ = [("kind", c.c_uint32), ("states", c.c_uint32), ("events", c.c_uint64), ("verdict", VerdictNumbers)]
 
@@ -114,11 +129,23 @@ def _load() -> Any:
         "explore": (
             u8, slot, u32, c.c_char_p, size, point(WatchNumbers), size, point(u32), size, c.c_bool, c.c_char_p, size, point(Exploration),
         ),
+        "seeds": (
+            u8, slot, c.c_char_p, size, point(OrderNumbers), u64, u64, u32, c.c_char_p, size, point(WatchNumbers), size, point(u32), size,
+            c.c_bool, c.c_char_p, size, point(Sought),
+        ),
+        "delays": (
+            u8, slot, c.c_char_p, size, point(OrderNumbers), point(ClassNumbers), u64, u32, c.c_char_p, size, point(WatchNumbers), size,
+            point(u32), size, c.c_bool, c.c_char_p, size, point(SoughtList),
+        ),
         "symbol": (u8, c.c_char_p, size, c.c_char_p, size, point(u32)),
         "nearest": (u8, slot, c.c_char_p, size, u32, point(u32)),
         "audit": (u8, slot, point(WatchNumbers), size, point(JudgementNumbers)),
         "judge": (
             u8, slot, c.c_char_p, size, c.c_char_p, size, point(WatchNumbers), size, point(u32), size, c.c_bool, c.c_char_p, size,
+            point(JudgementNumbers),
+        ),
+        "hung": (
+            u8, slot, c.c_char_p, size, u32, c.c_char_p, size, point(WatchNumbers), size, point(u32), size, c.c_bool, c.c_char_p, size,
             point(JudgementNumbers),
         ),
         "processor": (c.c_bool, slot, u32, point(ProcessorView)),

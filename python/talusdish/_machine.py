@@ -8,17 +8,19 @@ import weakref
 from contextlib import contextmanager
 from dataclasses import dataclass, replace
 from enum import Enum
-from typing import Callable, Iterable, Iterator, Optional, Sequence
+from typing import Any, Callable, Iterable, Iterator, Optional, Sequence, Tuple, Union
 
 from ._errors import GOALS, KINDS, ORDERS, AssemblyError, BadProcessor, boot_error, refusal
 from ._library import (
-    ALL_RIGHT, NO_MEMORY, NO_SYMBOL, RUN_OFF, RUN_STUCK, BoardView, ConflictView, EntryView, Exploration, Fault, Goal, JudgementNumbers, OutcomeNumbers,
-    ProcessorView, RowWords, Size, Slot, Style, lib,
+    ALL_RIGHT, NO_MEMORY, NO_SYMBOL, RUN_OFF, RUN_STUCK, BoardView, ClassNumbers, ConflictView, EntryView, Exploration, Fault, Goal, JudgementNumbers,
+    OrderNumbers, OutcomeNumbers,
+    ProcessorView, RowWords, Size, Slot, Sought, SoughtList, Style, lib,
 )
 from ._judging import (
-    Clean, Event, Explored, Found, Hung, Judgement, Made, Open, Watch, events_of, goal_of, judgement_of, verdict_of, watches_of,
+    AllRight, Clean, Event, Explored, Found, Hung, Judgement, Made, Open, Searched, Watch, WrongRun, events_of, goal_of, judgement_of, verdict_of,
+    watches_of,
 )
-from ._orders import Order, Seeded, Turns, numbers_of, within
+from ._orders import Delayed, Delays, Order, Random, Seeded, Turns, numbers_of, within
 from ._trace import TraceLine
 
 
@@ -425,15 +427,44 @@ class Machine:
         return judgement_of(found)
 
     def judge(
-        self, keys: bytes = b"", watches: Iterable[Watch] = (), never: Iterable[int] = (), output: Optional[bytes] = None
+        self, keys: bytes = b"", watches: Iterable[Watch] = (), never: Iterable[int] = (), output: Optional[bytes] = None, hung: int = 0
     ) -> Optional[Judgement]:
         """Judges the machine's events since its boot: the first verdict that holds, in the order of `Wrong`, or None. `keys` are all that
-        could be typed: while some are left, the machine isn't stuck. Raises BadWatch, Dropped where the log has no room for all
-        events, or MemoryError."""
+        could be typed: while some are left, the machine isn't stuck. With `hung`, events behind which no order of further ones leads to
+        an end are HUNG, if those lead to at most so many different states; with 0 it isn't looked at. Raises BadWatch, Dropped where the
+        log has no room for all events, or MemoryError."""
         found, file = JudgementNumbers(), self._image.file
+        goal, looked = goal_of(keys, watches, never, output), within("hung", hung)
         with _alone(self._lock):
-            _judged(lib.talusdish_judge(self._slot, file, len(file), *goal_of(keys, watches, never, output), found))
+            if looked:
+                _judged(lib.talusdish_hung(self._slot, file, len(file), looked, *goal, found))
+            else:
+                _judged(lib.talusdish_judge(self._slot, file, len(file), *goal, found))
         return judgement_of(found)
+
+    def _seek(self, numbers: OrderNumbers, events: int, count: int, hung: int, goal: Tuple[Any, ...]) -> Tuple[Sought, bytes]:
+        """A search by these seeds from the boot, and the numbers of the events that its verdict needs."""
+        found, file = Sought(), self._image.file
+        with _alone(self._lock):
+            answer = lib.talusdish_seeds(self._slot, file, len(file), numbers, events, count, hung, *goal, found)
+            listed = b"" if answer else _bytes(self._slot)
+        if answer in ORDERS:
+            raise ORDERS[answer](ORDERS[answer].__doc__)
+        _judged(answer)
+        return found, listed
+
+    def _seek_lists(
+        self, numbers: OrderNumbers, lists: ClassNumbers, events: int, hung: int, goal: Tuple[Any, ...]
+    ) -> Tuple[SoughtList, bytes]:
+        """A search by these lists of delays from the boot, and the numbers of the events that its verdict needs."""
+        found, file = SoughtList(), self._image.file
+        with _alone(self._lock):
+            answer = lib.talusdish_delays(self._slot, file, len(file), numbers, lists, events, hung, *goal, found)
+            listed = b"" if answer else _bytes(self._slot)
+        if answer in ORDERS:
+            raise ORDERS[answer](ORDERS[answer].__doc__)
+        _judged(answer)
+        return found, listed
 
     @property
     def made(self) -> int:
@@ -523,3 +554,57 @@ def explore(
     """Looks at every state that an image can reach, as `Machine.explore` does: `explore(image, cpus=2)` gives `Clean(527)`, say.
     Raises also what `Machine` does."""
     return Machine(image, ram, cpus, 1, line, strict).explore(states, keys, watches, never, output)
+
+
+def _search_delays(
+    machine: Machine, lists: Delays, numbers: OrderNumbers, events: int, hung: int, goal: Tuple[Any, ...], keys: bytes
+) -> Searched:
+    if not 0 <= lists.most <= 64:
+        raise ValueError(f"most is {lists.most}; it is 0 to 64")
+    found, listed = machine._seek_lists(
+        numbers, ClassNumbers(lists.most, within("first", lists.first), within("within", lists.within)), events, hung, goal
+    )
+    if not found.verdict.kind:
+        return AllRight(found.right, found.cut)
+    order = Delayed(lists.steps, tuple(found.delays[: found.count]))
+    return WrongRun(order, verdict_of(found.verdict), events_of(listed, len(machine.processors), keys), found.right, found.cut)
+
+
+def search(
+    image: Image, order: Union[Order, Delays] = Random(0), runs: int = 1000, events: int = 100000, ram: int = 1048576, cpus: int = 1, keys: bytes = b"",
+    gap: int | None = None, transfer: int = 4, watches: Iterable[Watch] = (), never: Iterable[int] = (), output: Optional[bytes] = None,
+    hung: int = 10000, line: bool = False, strict: bool = False, progress: Optional[Callable[[int], object]] = None, at_once: int = 100,
+) -> Searched:
+    """Looks for a run of an image that goes wrong, as `s161 search` does: `search(image, cpus=2)` gives `AllRight(1000, 0)`, say, or a
+    `WrongRun`. The runs are those of `order` with so many seeds, its own and those behind it, each from the boot and of at most `events`
+    events. What goes wrong is what `Machine.judge` says; a run that ends only because no more events were asked for hangs where no order
+    of events leads to an end any more, if those that there are lead to at most `hung` different states; 0 looks at none.
+
+    With `Delays(2)` in place of an order they are all runs by turns in which at most twice a ready processor is passed over, and `runs`,
+    `progress` and `at_once` have no meaning: the search is one call. `AllRight(277, 0)` says then that each of 277 different runs is right;
+    a `WrongRun` has a `Delayed` as its order.
+
+    The runs are made in this thread, `at_once` of them a call of the library. Behind each call in which none goes wrong, `progress` is
+    called with how many runs there were so far; what it raises ends the search, and so does Ctrl-C.
+
+    Raises NoTurn, NoStretch or TooManyChanges, a BootError, BadWatch, MemoryError, or ValueError for a number outside its limits."""
+    machine = Machine(image, ram, cpus, 1, line, strict)
+    goal, most, looked = goal_of(keys, watches, never, output), within("events", events, 64), within("hung", hung)
+    if isinstance(order, Delays):
+        return _search_delays(machine, order, numbers_of(Turns(order.steps), transfer, gap), most, looked, goal, keys)
+    numbers = numbers_of(order, transfer, gap)
+    first = numbers.seed
+    if at_once < 1:
+        raise ValueError(f"at_once is {at_once}; it is at least 1")
+    done = cut = 0
+    while True:
+        numbers.seed = (first + done) % 2**64
+        found, listed = machine._seek(numbers, most, min(at_once, within("runs", runs, 64) - done), looked, goal)
+        done, cut = done + found.right, cut + found.cut
+        if found.verdict.kind:
+            seeded = order if isinstance(order, Turns) else replace(order, seed=(first + done) % 2**64)
+            return WrongRun(seeded, verdict_of(found.verdict), events_of(listed, cpus, keys), done, cut)
+        if progress:
+            progress(done)
+        if done >= runs:
+            return AllRight(done, cut)

@@ -3,7 +3,7 @@
 from __future__ import annotations
 
 from dataclasses import dataclass
-from typing import Union
+from typing import Tuple, Union
 
 from ._library import OrderNumbers
 
@@ -30,6 +30,26 @@ class Priorities:
     seed: int
     changes: int
     within: int
+
+
+@dataclass(frozen=True)
+class Delayed:
+    """Turns of so many Steps, with `delays`: the choices, from 0, at which a ready processor is passed over. What a search by delays
+    gives; a machine makes the events that it gives beside."""
+
+    steps: int
+    delays: Tuple[int, ...]
+
+
+@dataclass(frozen=True)
+class Delays:
+    """To be searched: all turns of `steps` Steps in which at most `most` times (0 to 64) a ready processor is passed over, at choices from
+    `first` on that come before `within`."""
+
+    most: int
+    steps: int = 50
+    first: int = 0
+    within: int = 16777216
 
 
 Order = Union[Turns, Random, Priorities]

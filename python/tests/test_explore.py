@@ -1,21 +1,27 @@
-"""Tests of explorations and of verdicts, over the library that c/build made."""
+"""Tests of explorations, of searches and of verdicts, over the library that c/build made."""
 
 import unittest
 from pathlib import Path
 
 import talusdish
 from talusdish import (
-    Clean, Event, Found, Hung, Judgement, Machine, Open, Stop, Verdict, Watch, Wrong, assemble, explore,
+    AllRight, Clean, Delayed, Delays, Event, Found, Hung, Judgement, Machine, Open, Priorities, Random, Stop, Turns, Verdict, Watch, Wrong, WrongRun, assemble,
+    explore, search,
 )
 
 EXAMPLES = Path(__file__).resolve().parents[2] / "examples"
 LABS = EXAMPLES / "labs"
+SPIN = "here: beq $0, $0, here\n nop\n"
 SUM = "main: addiu $8, $0, 5\n addiu $9, $8, 7\n lui $10, 0x8000\n sw $9, 0x3010($10)\nlast: wait\n beq $0, $0, last\n nop\n"
 POLL = " lui $8, 0xbfe0\nread: lw $9, 8($8)\n andi $9, $9, 2\n beq $9, $0, read\n nop\ngot: nop\n"
 
 
 def lab(name):
     return assemble((LABS / f"{name}.s").read_text())
+
+
+def example(name):
+    return assemble((EXAMPLES / f"{name}.s").read_text())
 
 
 class Exploring(unittest.TestCase):
@@ -65,6 +71,88 @@ class Exploring(unittest.TestCase):
         text = " lui $8, 0x40\n mtc0 $8, $10\n ori $9, $0, 0x200\n mtc0 $9, $2\n ori $9, $0, 0x300\n mtc0 $9, $0\n tlbwi\n ori $9, $0, 0x500\n mtc0 $9, $0\n tlbwi\n"
         found = explore(assemble(text), ram=4096, strict=True)
         self.assertEqual((found.verdict, len(found.events)), (Verdict(Wrong.CONFLICT, row=5, other=3), 10))
+
+
+class Searching(unittest.TestCase):
+    # What is expected of the labs is what `s161 search` prints of them.
+    def small(self, name, **options):
+        return search(lab(name), ram=28672, cpus=2, runs=100, events=2000, **options)
+
+    def test_lost_update(self):
+        found = self.small("lost-update")
+        self.assertEqual((found.order, found.verdict, found.right, found.cut), (Random(1), Verdict(Wrong.STUCK), 1, 0))
+        runs = ((0, 7), (1, 1), (0, 4), (1, 1), (0, 1), (1, 3), (0, 2), (1, 1), (0, 6), (1, 1), (0, 1), (1, 11))
+        self.assertEqual(found.events, tuple((Event.STEP, p) for p, times in runs for _ in range(times)))
+        machine = Machine(lab("lost-update"), ram=28672, cpus=2)
+        machine.make(found.events)
+        self.assertEqual((machine.run().stop, machine.memory[0x1000]), (Stop.STUCK, 1))
+        found = self.small("lost-update", order=Priorities(3, 2, 40))
+        self.assertEqual((found.order, found.verdict, found.right), (Priorities(31, 2, 40), Verdict(Wrong.STUCK), 28))
+        self.assertEqual(self.small("lost-update-fixed"), AllRight(100, 0))
+
+    def test_hung(self):
+        found = self.small("two-locks")
+        self.assertEqual((found.order, found.verdict), (Random(0), Verdict(Wrong.HUNG)))
+        # these events hang, and one fewer don't
+        for n, stuck in ((len(found.events), Judgement(Verdict(Wrong.HUNG), len(found.events))), (len(found.events) - 1, None)):
+            machine = Machine(lab("two-locks"), ram=28672, cpus=2)
+            machine.make(found.events[:n])
+            self.assertEqual(machine.judge(hung=10000), stuck)
+            self.assertIsNone(machine.judge())
+        self.assertEqual(self.small("two-locks", hung=0), AllRight(100, 89))
+        self.assertEqual(search(assemble(SPIN), ram=4096, events=50), WrongRun(Random(0), Verdict(Wrong.HUNG), (), 0, 0))
+        self.assertEqual(search(assemble(SPIN), ram=4096, events=50, runs=3, hung=1), AllRight(3, 3))
+        self.assertEqual(search(assemble(SPIN), ram=4096, events=50, runs=3, hung=1, output=b"").verdict, Verdict(Wrong.END))
+        self.assertEqual(search(assemble(SPIN), ram=4096, events=50, runs=3, output=b"").verdict, Verdict(Wrong.HUNG))
+
+    def test_delays(self):
+        found = self.small("lost-update", order=Delays(2))
+        self.assertEqual((found.order, found.verdict), (Delayed(50, (11,)), Verdict(Wrong.STUCK)))
+        machine = Machine(lab("lost-update"), ram=28672, cpus=2)
+        machine.make(found.events)
+        self.assertEqual((machine.run().stop, machine.memory[0x1000]), (Stop.STUCK, 1))
+        self.assertEqual(self.small("lost-update", order=Delays(2, 7)).order, Delayed(7, (11,)))
+        for lists, runs in (
+            (Delays(2), 277), (Delays(2, within=30), 221), (Delays(2, first=20), 61), (Delays(1, 3), 34), (Delays(0), 1), (Delays(2, first=9, within=9), 1),
+        ):
+            with self.subTest(lists):
+                self.assertEqual(self.small("lost-update-fixed", order=lists), AllRight(runs, 0))
+        found = self.small("two-locks", order=Delays(2))
+        self.assertEqual((found.order, found.verdict), (Delayed(50, (12,)), Verdict(Wrong.HUNG)))
+        self.assertEqual(found.events[:15], ((Event.STEP, 0),) * 12 + ((Event.STEP, 1),) * 3)
+        self.assertEqual(self.small("two-locks", order=Delays(1), hung=0), AllRight(26, 6))
+        self.assertEqual(self.small("two-locks", order=Delays(0)), AllRight(1, 0))
+
+    def test_slices(self):
+        told = []
+        self.assertEqual(self.small("lost-update-fixed", progress=told.append, at_once=30), AllRight(100, 0))
+        self.assertEqual(told, [30, 60, 90, 100])
+        whole = self.small("lost-update", order=Priorities(3, 2, 40))
+        for at_once in (1, 7, 28, 29, 1000):
+            told = []
+            self.assertEqual(self.small("lost-update", order=Priorities(3, 2, 40), progress=told.append, at_once=at_once), whole)
+            self.assertEqual(told, list(range(at_once, 29, at_once)))
+        # seeds begin again at 0, and what `progress` raises ends the search
+        found = self.small("lost-update", order=Priorities(2**64 - 1, 1, 50), at_once=10)
+        self.assertEqual((found.order, found.right), (Priorities(67, 1, 50), 68))
+        with self.assertRaises(KeyError):
+            self.small("lost-update-fixed", progress={}.__getitem__)
+        self.assertEqual(search(assemble(SUM), runs=0, ram=65536), AllRight(0, 0))
+
+    def test_keys_and_transfers(self):
+        found = search(assemble(POLL), Turns(1), 1, 99, ram=4096, keys=b"k", gap=3, never=[0x80000214])
+        self.assertEqual((found.order, found.verdict.wrong, found.events[3]), (Turns(1), Wrong.REACHED, (Event.KEY, ord("k"))))
+        self.assertIn((Event.DONE, 0), search(example("hello"), ram=65536, runs=1, output=b"").events)
+
+    def test_refusals(self):
+        image = assemble(SUM)
+        for wrong, options in (
+            (talusdish.NoTurn, {"order": Turns(0)}), (talusdish.NoStretch, {"order": Priorities(0, 1, 0)}),
+            (talusdish.BadWatch, {"watches": [Watch(0, 0, 4, 4)]}), (talusdish.BadConf, {"ram": 5}), (ValueError, {"at_once": 0}),
+            (ValueError, {"runs": -1}), (ValueError, {"order": Delays(65)}), (talusdish.NoTurn, {"order": Delays(1, 0)}), (ValueError, {"hung": 2**32}), (ValueError, {"events": -1}),
+        ):
+            with self.subTest(wrong), self.assertRaises(wrong):
+                search(image, **options)
 
 
 class Judging(unittest.TestCase):

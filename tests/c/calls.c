@@ -510,6 +510,228 @@ static void judgements(void) {
     talusdish_close(&slot);
 }
 
+static uint8_t hung(talusdish_slot *slot, const uint8_t *file, size_t size, uint32_t few, const goal_of_run *goal, talusdish_judgement *judgement) {
+    const char *output = goal->output ? goal->output : "";
+    uint8_t *keys = exact(goal->keys, strlen(goal->keys)), *sent = exact(output, strlen(output)), *own = exact(file, size);
+    uint8_t *watches = exact(goal->watch, goal->watches * sizeof *goal->watch), *never = exact(goal->never, goal->nevers * sizeof *goal->never);
+    uint8_t answer = talusdish_hung(slot, own, size, few, keys, strlen(goal->keys), (talusdish_watch *)(void *)watches, goal->watches,
+                                    (uint32_t *)(void *)never, goal->nevers, goal->output != NULL, sent, strlen(output), judgement);
+    free(keys), free(sent), free(own), free(watches), free(never);
+    return answer;
+}
+
+static uint8_t seeds(talusdish_slot *slot, const uint8_t *file, size_t size, const talusdish_order *order, uint64_t n, uint64_t count, uint32_t few,
+                     const goal_of_run *goal, talusdish_sought *found) {
+    const char *output = goal->output ? goal->output : "";
+    uint8_t *keys = exact(goal->keys, strlen(goal->keys)), *sent = exact(output, strlen(output)), *own = exact(file, size);
+    uint8_t *watches = exact(goal->watch, goal->watches * sizeof *goal->watch), *never = exact(goal->never, goal->nevers * sizeof *goal->never);
+    uint8_t answer = talusdish_seeds(slot, own, size, order, n, count, few, keys, strlen(goal->keys), (talusdish_watch *)(void *)watches, goal->watches,
+                                     (uint32_t *)(void *)never, goal->nevers, goal->output != NULL, sent, strlen(output), found);
+    free(keys), free(sent), free(own), free(watches), free(never);
+    return answer;
+}
+
+static uint8_t delays(talusdish_slot *slot, const uint8_t *file, size_t size, const talusdish_order *order, talusdish_class lists, uint64_t n,
+                      uint32_t few, const goal_of_run *goal, talusdish_sought_list *found) {
+    const char *output = goal->output ? goal->output : "";
+    uint8_t *keys = exact(goal->keys, strlen(goal->keys)), *sent = exact(output, strlen(output)), *own = exact(file, size);
+    uint8_t *watches = exact(goal->watch, goal->watches * sizeof *goal->watch), *never = exact(goal->never, goal->nevers * sizeof *goal->never);
+    uint8_t answer = talusdish_delays(slot, own, size, order, &lists, n, few, keys, strlen(goal->keys), (talusdish_watch *)(void *)watches, goal->watches,
+                                      (uint32_t *)(void *)never, goal->nevers, goal->output != NULL, sent, strlen(output), found);
+    free(keys), free(sent), free(own), free(watches), free(never);
+    return answer;
+}
+
+/* The session's bytes are an ELF file: it is booted, and stays in the buffer. */
+static uint8_t *boot_kept(talusdish_slot *slot, const char *text, talusdish_size conf, size_t *size) {
+    talusdish_fault fault;
+    CHECK(assemble(slot, text, &fault) == 0);
+    uint8_t *file = bytes_of(slot, size);
+    CHECK(talusdish_boot(slot, file, *size, &conf) == 0);
+    return file;
+}
+
+/* What a search found has these numbers, and a verdict without others. */
+static bool is_found(const talusdish_sought *found, uint32_t kind, uint64_t right, uint64_t cut, uint64_t events) {
+    const talusdish_verdict *verdict = &found->verdict;
+    return verdict->kind == kind && verdict->processor == 0 && verdict->address == 0 && verdict->row == 0 && verdict->other == 0 &&
+           found->right == right && found->cut == cut && found->events == events;
+}
+
+static const char *spin = "here: beq $0, $0, here\n nop\n";
+
+/* Why no run is made: nothing is changed or told. */
+static void unsought(void) {
+    talusdish_slot slot = {0};
+    talusdish_sought found = {{9, 9, 9, 9, 9}, 9, 9, 9}, same = found;
+    talusdish_judgement judgement = {{9, 9, 9, 9, 9}, 9}, alike = judgement;
+    talusdish_order order = {9, 0, 0, 0, 0, 4, 0, false};
+    goal_of_run goal = {"", NULL, {{64, 0, 0, 4}}, 1, {0, 0}, 0};
+    talusdish_size short_log = {65536, 1, 2, false, false};
+    size_t size;
+    uint32_t made;
+    CHECK(seeds(&slot, NULL, 0, &order, 9, 9, 9, &goal, &found) == TALUSDISH_NOTHING && hung(&slot, NULL, 0, 9, &goal, &judgement) == TALUSDISH_NOTHING);
+    CHECK(talusdish_open(&slot));
+    CHECK(seeds(&slot, NULL, 0, &order, 9, 9, 9, &goal, &found) == TALUSDISH_NOTHING && hung(&slot, NULL, 0, 9, &goal, &judgement) == TALUSDISH_NOTHING);
+    uint8_t *file = boot_kept(&slot, sum, short_log, &size);
+    CHECK(seeds(&slot, file, 51, &order, 9, 0, 9, &goal, &found) == TALUSDISH_BAD); /* the order comes first, then the file, then the watches */
+    order.kind = TALUSDISH_TURNS;
+    CHECK(seeds(&slot, file, 51, &order, 9, 0, 9, &goal, &found) == TALUSDISH_NO_TURN);
+    order.kind = TALUSDISH_PRIORITIES;
+    CHECK(seeds(&slot, file, 51, &order, 9, 0, 9, &goal, &found) == TALUSDISH_NO_STRETCH);
+    order.within = 1;
+    order.changes = 65;
+    CHECK(seeds(&slot, file, 51, &order, 9, 0, 9, &goal, &found) == TALUSDISH_TOO_MANY_CHANGES);
+    order.kind = TALUSDISH_RANDOM;
+    CHECK(seeds(&slot, file, 51, &order, 9, 0, 9, &goal, &found) == 2 && hung(&slot, file, 51, 9, &goal, &judgement) == 2);
+    CHECK(seeds(&slot, file, size, &order, 9, 0, 9, &goal, &found) == TALUSDISH_BAD_WATCH && hung(&slot, file, size, 9, &goal, &judgement) == TALUSDISH_BAD_WATCH);
+    CHECK(talusdish_steps(&slot, 0, 3, &made) == 0 && hung(&slot, file, 51, 9, &goal, &judgement) == TALUSDISH_DROPPED);
+    CHECK(memcmp(&found, &same, sizeof found) == 0 && memcmp(&judgement, &alike, sizeof judgement) == 0 && talusdish_length(&slot) == size);
+    free(file);
+    talusdish_close(&slot);
+}
+
+/* The same of a search by delays. */
+static void unlisted(void) {
+    talusdish_slot slot = {0};
+    talusdish_sought_list found, same;
+    memset(&found, 0x5a, sizeof found);
+    memcpy(&same, &found, sizeof found);
+    talusdish_order order = {TALUSDISH_RANDOM, 0, 0, 0, 0, 4, 0, false};
+    talusdish_class many = {65, 0, 9}, lists = {64, 0, 9};
+    goal_of_run goal = {"", NULL, {{64, 0, 0, 4}}, 1, {0, 0}, 0};
+    size_t size;
+    CHECK(delays(&slot, NULL, 0, &order, lists, 9, 9, &goal, &found) == TALUSDISH_NOTHING);
+    CHECK(talusdish_open(&slot) && delays(&slot, NULL, 0, &order, lists, 9, 9, &goal, &found) == TALUSDISH_NOTHING);
+    uint8_t *file = boot_kept(&slot, sum, small, &size);
+    CHECK(delays(&slot, file, 51, &order, lists, 9, 9, &goal, &found) == TALUSDISH_BAD);
+    order.kind = TALUSDISH_TURNS;
+    CHECK(delays(&slot, file, 51, &order, many, 9, 9, &goal, &found) == TALUSDISH_BAD);
+    CHECK(delays(&slot, file, 51, &order, lists, 9, 9, &goal, &found) == TALUSDISH_NO_TURN);
+    order.turns = 1;
+    CHECK(delays(&slot, file, 51, &order, lists, 9, 9, &goal, &found) == 2);
+    CHECK(delays(&slot, file, size, &order, lists, 9, 9, &goal, &found) == TALUSDISH_BAD_WATCH);
+    CHECK(memcmp(&found, &same, sizeof found) == 0 && talusdish_length(&slot) == size);
+    free(file);
+    talusdish_close(&slot);
+}
+
+/* What is expected is what `s161 search --delays` prints of these kernels. */
+static void listed(void) {
+    talusdish_slot slot = {0};
+    talusdish_sought_list found;
+    talusdish_order order = {TALUSDISH_TURNS, 50, 0, 0, 0, 4, 0, false};
+    talusdish_size two = {65536, 2, 16, false, false};
+    talusdish_class all = {2, 0, 16777216}, first = {2, 0, 9}, last = {2, 30, 16777216}, middle = {3, 12, 14}, none = {0, 0, 16777216};
+    goal_of_run goal = {"", NULL, {{0, 0, 0, 0}}, 0, {0, 0}, 0};
+    size_t size;
+    CHECK(talusdish_open(&slot));
+    uint8_t *file = boot_kept(&slot, race, two, &size);
+    CHECK(delays(&slot, file, size, &order, all, 10000, 9999, &goal, &found) == 0 && found.verdict.kind == TALUSDISH_VERDICT_STUCK);
+    CHECK(found.count == 1 && found.delays[0] == 11 && found.events == 39 && found.right == 0 && found.cut == 0);
+    CHECK(has_events(&slot, "000000000001111111111111100000000000000") && talusdish_made(&slot) == 0);
+    CHECK(delays(&slot, file, size, &order, middle, 10000, 9999, &goal, &found) == 0 && found.verdict.kind == TALUSDISH_VERDICT_STUCK);
+    CHECK(found.count == 1 && found.delays[0] == 12 && found.events == 39 && has_events(&slot, "000000000000111111111111110000000000000"));
+    CHECK(delays(&slot, file, size, &order, first, 10000, 9999, &goal, &found) == 0 && found.verdict.kind == TALUSDISH_VERDICT_NONE);
+    CHECK(found.right == 4 && found.cut == 0 && found.count == 0 && found.events == 0 && has_events(&slot, ""));
+    CHECK(delays(&slot, file, size, &order, last, 10000, 9999, &goal, &found) == 0 && found.verdict.kind == TALUSDISH_VERDICT_NONE && found.right == 1);
+    CHECK(delays(&slot, file, size, &order, none, 10000, 9999, &goal, &found) == 0 && found.verdict.kind == TALUSDISH_VERDICT_NONE && found.right == 1);
+    free(file);
+    file = boot_kept(&slot, spin, small, &size);
+    CHECK(delays(&slot, file, size, &order, all, 9, 2, &goal, &found) == 0 && found.verdict.kind == TALUSDISH_VERDICT_HUNG && found.events == 0);
+    CHECK(delays(&slot, file, size, &order, all, 9, 1, &goal, &found) == 0 && found.verdict.kind == TALUSDISH_VERDICT_NONE);
+    CHECK(found.right == 1 && found.cut == 1);
+    goal.output = "x";
+    CHECK(delays(&slot, file, size, &order, all, 9, 1, &goal, &found) == 0 && found.verdict.kind == TALUSDISH_VERDICT_END && found.events == 9);
+    CHECK(found.count == 0 && has_events(&slot, "000000000"));
+    free(file);
+    talusdish_close(&slot);
+}
+
+/* Runs that are cut, and hang or don't. */
+static void hangs(void) {
+    talusdish_slot slot = {0};
+    talusdish_sought found;
+    talusdish_judgement judgement;
+    talusdish_order order = {TALUSDISH_RANDOM, 0, 5, 0, 0, 4, 0, false};
+    goal_of_run goal = {"", NULL, {{0, 0, 0, 0}}, 0, {0, 0}, 0};
+    size_t size;
+    uint32_t made;
+    CHECK(talusdish_open(&slot));
+    /* spins for ever: there are two views, and no end; what the machine has done is no matter to a search */
+    uint8_t *file = boot_kept(&slot, spin, small, &size);
+    CHECK(talusdish_steps(&slot, 0, 9, &made) == 0);
+    CHECK(seeds(&slot, file, size, &order, 50, 3, 2, &goal, &found) == 0 && is_found(&found, TALUSDISH_VERDICT_HUNG, 0, 0, 0) && has_events(&slot, ""));
+    CHECK(seeds(&slot, file, size, &order, 50, 3, 1, &goal, &found) == 0 && is_found(&found, TALUSDISH_VERDICT_NONE, 3, 3, 0) && has_events(&slot, ""));
+    CHECK(seeds(&slot, file, size, &order, 50, 3, 0, &goal, &found) == 0 && is_found(&found, TALUSDISH_VERDICT_NONE, 3, 3, 0));
+    CHECK(seeds(&slot, file, size, &order, 50, 0, 2, &goal, &found) == 0 && is_found(&found, TALUSDISH_VERDICT_NONE, 0, 0, 0));
+    CHECK(hung(&slot, file, size, 2, &goal, &judgement) == 0 && judgement.verdict.kind == TALUSDISH_VERDICT_HUNG && judgement.events == 0);
+    CHECK(hung(&slot, file, size, 0, &goal, &judgement) == 0 && judgement.verdict.kind == TALUSDISH_VERDICT_NONE && judgement.events == 0);
+    CHECK(hung(&slot, file, size, 1, &goal, &judgement) == 0 && judgement.verdict.kind == TALUSDISH_VERDICT_NONE);
+    /* where output is asked for, `hung` comes before `end` */
+    goal.output = "x";
+    CHECK(seeds(&slot, file, size, &order, 50, 3, 2, &goal, &found) == 0 && is_found(&found, TALUSDISH_VERDICT_HUNG, 0, 0, 0));
+    CHECK(seeds(&slot, file, size, &order, 7, 3, 1, &goal, &found) == 0 && is_found(&found, TALUSDISH_VERDICT_END, 0, 0, 7) && has_events(&slot, "0000000"));
+    CHECK(hung(&slot, file, size, 2, &goal, &judgement) == 0 && judgement.verdict.kind == TALUSDISH_VERDICT_HUNG);
+    CHECK(hung(&slot, file, size, 0, &goal, &judgement) == 0 && judgement.verdict.kind == TALUSDISH_VERDICT_END && judgement.events == 9);
+    goal.nevers = 1;
+    goal.never[0] = 0x80000204;
+    CHECK(hung(&slot, file, size, 2, &goal, &judgement) == 0 && judgement.verdict.kind == TALUSDISH_VERDICT_REACHED && judgement.events == 2);
+    CHECK(talusdish_made(&slot) == 9);
+    goal.nevers = 0;
+    free(file);
+    /* goes off once a key is typed, and spins until then: as long as one is left, it can still end */
+    file = boot_kept(&slot, " lui $8, 0xbfe0\nread: lw $9, 8($8)\n andi $9, $9, 2\n beq $9, $0, read\n nop\n lui $8, 0xbfff\n sw $0, 32264($8)\n nop\n", small, &size);
+    goal.keys = "k";
+    goal.output = NULL;
+    talusdish_order typing = {TALUSDISH_TURNS, 1, 0, 0, 0, 4, 1000, true};
+    CHECK(seeds(&slot, file, size, &typing, 100, 1, 9999, &goal, &found) == 0 && is_found(&found, TALUSDISH_VERDICT_NONE, 1, 1, 0));
+    goal.keys = "";
+    CHECK(seeds(&slot, file, size, &typing, 100, 1, 9999, &goal, &found) == 0 && is_found(&found, TALUSDISH_VERDICT_HUNG, 0, 0, 0));
+    free(file);
+    talusdish_close(&slot);
+}
+
+/* Two processors: which seed is wrong, call by call, and what its events do. */
+static void seeks(void) {
+    talusdish_slot slot = {0}, other = {0};
+    talusdish_sought found, one;
+    talusdish_order order = {TALUSDISH_RANDOM, 0, 0, 0, 0, 100, 0, false}, from = order;
+    talusdish_size two = {65536, 2, 16, false, false};
+    goal_of_run goal = {"", NULL, {{0, 0, 0, 0}}, 0, {0, 0}, 0};
+    const uint8_t *none = (const uint8_t *)"";
+    talusdish_goal end = {0x1000, 2};
+    talusdish_outcome outcome;
+    uint64_t right, made;
+    size_t size, length;
+    CHECK(talusdish_open(&slot));
+    uint8_t *file = boot_kept(&slot, race, two, &size);
+    CHECK(talusdish_search(&slot, &order, none, 0, 10000, 100, &end, &right) == 0);
+    CHECK(seeds(&slot, file, size, &order, 10000, 100, 9999, &goal, &found) == 0);
+    CHECK(is_found(&found, TALUSDISH_VERDICT_STUCK, right, 0, found.events) && found.events > 0);
+    /* its events are those of a run by that seed, which stops behind them */
+    uint8_t *events = bytes_of(&slot, &length);
+    CHECK(length == found.events && talusdish_copy(&slot, &other) == 0);
+    for (size_t k = 0; k < length; k++) CHECK(talusdish_step(&slot, events[k], &outcome) == 0);
+    CHECK(talusdish_drive(&slot, &order, none, 0, 9, &made) == TALUSDISH_RUN_STUCK && made == 0);
+    from.seed = found.right;
+    CHECK(talusdish_drive(&other, &from, none, 0, 10000, &made) == TALUSDISH_RUN_STUCK && made == found.events);
+    free(events);
+    /* call by call, from any seed on */
+    for (uint64_t k = 0; k <= found.right; k++) {
+        from.seed = k;
+        CHECK(seeds(&slot, file, size, &from, 10000, 1, 9999, &goal, &one) == 0);
+        CHECK(k < found.right ? is_found(&one, TALUSDISH_VERDICT_NONE, 1, 0, 0) : is_found(&one, TALUSDISH_VERDICT_STUCK, 0, 0, found.events));
+    }
+    from.seed = UINT64_MAX;
+    CHECK(seeds(&slot, file, size, &from, 10000, 100, 0, &goal, &one) == 0 && one.right <= found.right + 1);
+    CHECK(seeds(&slot, file, size, &order, 10000, found.right, 0, &goal, &one) == 0 && is_found(&one, TALUSDISH_VERDICT_NONE, found.right, 0, 0));
+    CHECK(has_events(&slot, "") && talusdish_made(&slot) == found.events);
+    talusdish_close(&other);
+    free(file);
+    talusdish_close(&slot);
+}
+
 /* Links of ll, and a strict machine that stops at a row of the TLB that would overlap another one. */
 static void links_and_conflicts(void) {
     static const char *text =
@@ -753,6 +975,11 @@ int main(void) {
     symbols();
     explorations();
     judgements();
+    unsought();
+    unlisted();
+    listed();
+    hangs();
+    seeks();
     links_and_conflicts();
     runs();
     orders();

@@ -127,6 +127,27 @@ static uint64_t whole(long at) {
     AGAIN(254, talusdish_judge(&slot, file, size, (const uint8_t *)"", 0, &watch, 1, &never, 1, true, (const uint8_t *)"x", 1, &judgement));
     note(judgement.verdict.kind);
     note(judgement.events);
+    AGAIN(254, talusdish_hung(&slot, file, size, 50, (const uint8_t *)"", 0, &watch, 1, &never, 1, true, (const uint8_t *)"x", 1, &judgement));
+    note(judgement.verdict.kind);
+    note(judgement.events);
+    /* the first run is right and cut, the second one is sought in vain: too few events, and more views than it may */
+    talusdish_sought sought = {{0, 0, 0, 0, 0}, 0, 0, 0};
+    talusdish_order random = {TALUSDISH_RANDOM, 0, 3, 0, 0, 4, 0, false};
+    AGAIN(254, talusdish_seeds(&slot, file, size, &random, 5, 2, 2, (const uint8_t *)"", 0, &watch, 1, &never, 1, false, (const uint8_t *)"", 0, &sought));
+    note(sought.right);
+    note(sought.cut);
+    AGAIN(254, talusdish_seeds(&slot, file, size, &random, 99, 2, 50, (const uint8_t *)"", 0, &watch, 1, &never, 1, true, (const uint8_t *)"x", 1, &sought));
+    note(sought.verdict.kind);
+    note(sought.events);
+    talusdish_sought_list list;
+    memset(&list, 0, sizeof list);
+    talusdish_class lists = {1, 0, 4};
+    AGAIN(254, talusdish_delays(&slot, file, size, &order, &lists, 5, 2, (const uint8_t *)"", 0, &watch, 1, &never, 1, false, (const uint8_t *)"", 0, &list));
+    note(list.right);
+    note(list.cut);
+    AGAIN(254, talusdish_delays(&slot, file, size, &order, &lists, 99, 50, (const uint8_t *)"", 0, &watch, 1, &never, 1, true, (const uint8_t *)"x", 1, &list));
+    note(list.verdict.kind);
+    note(list.events);
     talusdish_slot copy = {0};
     AGAIN(254, talusdish_copy(&slot, &copy));
     note(seen(&copy) == seen(&slot));

@@ -1,3 +1,6 @@
 -- Definitions that only contracts of private functions, or proofs, use.
 pub mod Explored
+pub mod Listing
+pub mod Seeking
+pub mod Telling
 pub mod Turns

@@ -9,18 +9,12 @@ ghost use Rattle.m161_c.specs.Judged.{AuditsAs, JudgesAs, TellsOne, TellsResult,
 
 use crate::answer::{Judgement, WatchNumbers};
 use crate::explored::watches_of;
-use crate::verdict::{NONE, run_verdict};
+use crate::verdict::{RIGHT, run_verdict};
 use crate::{BAD_WATCH, DROPPED, NO_MEMORY};
 use m161::{BootError, Console, Entry, Event, Machine, Tlb};
 use m161_audit::{AuditError, Finding, audit_core};
 use m161_judge::{Goal, Judged, Verdict};
 use std::alloc::{AllocError, Global};
-
-/// Nothing is wrong.
-const RIGHT: Judgement = Judgement {
-    verdict: NONE,
-    events: 0,
-};
 
 // Adds an event behind the others.
 fn push_event(events: &mut Vec<Event>, event: Event) -> Result<(), AllocError>
@@ -41,15 +35,16 @@ fn events_of(alloc: Global, entries: &[Entry]) -> Result<Vec<Event>, AllocError>
     Ok(events)
 }
 
-// The events of a machine's log.
-fn events_made(alloc: Global, machine: &Machine) -> Result<Vec<Event>, AllocError>
+/// The events of a machine's log.
+pub(crate) fn events_made(alloc: Global, machine: &Machine) -> Result<Vec<Event>, AllocError>
     ensures { IfOk result (λ events. events.items ≡ events_of machine.now.log) }
 {
     let entries = machine.copy_log(alloc)?;
     events_of(alloc, &entries)
 }
 
-fn audit_number(error: AuditError) -> u8
+/// Why events aren't judged, as a number.
+pub(crate) fn audit_number(error: AuditError) -> u8
     ensures { result ≡ number_of_audit error }
 {
     match error {
@@ -94,8 +89,8 @@ fn judged_numbers(judged: Option<Judged>) -> Judgement
     }
 }
 
-// Whether a machine's log has all events since its boot.
-fn has_all(machine: &Machine) -> bool
+/// Whether a machine's log has all events since its boot.
+pub(crate) fn has_all(machine: &Machine) -> bool
     ensures value { result ≡ (machine.now.base.made == 0) }
     ensures boot { result ≡ true → machine.now.base ≡ boot_state machine.now.start }
 {

@@ -1,9 +1,11 @@
 //! The numbers of a verdict.
 
 ghost use Rattle.std.specs.Prelude.{◌≡◌};
+ghost use Rattle.m161_c.specs.Told.{search_verdict, told_numbers};
 ghost use Rattle.m161_c.specs.Verdicts.{as_run, run_verdict};
 
-use crate::answer::VerdictNumbers;
+use crate::answer::{Judgement, VerdictNumbers};
+use crate::told::{SearchVerdict, Told};
 use m161_judge::Verdict as RunVerdict;
 use m161_states::Verdict;
 
@@ -14,6 +16,12 @@ pub(crate) const NONE: VerdictNumbers = VerdictNumbers {
     address: 0,
     row: 0,
     other: 0,
+};
+
+/// No verdict, which needs no events.
+pub(crate) const RIGHT: Judgement = Judgement {
+    verdict: NONE,
+    events: 0,
 };
 
 /// Those of a verdict on a run.
@@ -53,6 +61,29 @@ pub(crate) fn run_verdict(verdict: RunVerdict) -> VerdictNumbers
         RunVerdict::Stuck => VerdictNumbers { kind: 4, ..NONE },
         RunVerdict::Output => VerdictNumbers { kind: 5, ..NONE },
         RunVerdict::End => VerdictNumbers { kind: 6, ..NONE },
+    }
+}
+
+/// Those of a verdict of a search.
+pub(crate) fn search_verdict(verdict: SearchVerdict) -> VerdictNumbers
+    ensures { result ≡ search_verdict verdict }
+{
+    match verdict {
+        SearchVerdict::Run(verdict) => run_verdict(verdict),
+        SearchVerdict::Hung => VerdictNumbers { kind: 7, ..NONE },
+    }
+}
+
+/// The same with how many events it needs.
+pub(crate) fn told_numbers(told: Option<Told>) -> Judgement
+    ensures { result ≡ told_numbers told }
+{
+    match told {
+        Some(told) => Judgement {
+            verdict: search_verdict(told.verdict),
+            events: told.events as u64,
+        },
+        None => RIGHT,
     }
 }
 

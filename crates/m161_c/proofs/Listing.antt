@@ -1,0 +1,140 @@
+use Rattle.std.proofs.Common.{◌≡◌, ◌⊎◌, inl, inr, ap, sym, subst, ℕ, ◌<◌, ◌≤◌, Bool, List, [], ◌∷◌, length, arith}
+use Rattle.std.specs.Prelude.{Option, None, Some, slice_get}
+use Rattle.m161_delays.specs.declared.search.Class.{Class}
+use Rattle.m161_delays.specs.Lists.{ComesBefore, IsAscendingFrom, IsOf}
+use Rattle.m161_delays.specs.Runs.{ChooseAlike, IsUsefulOf}
+use Rattle.m161_delays.specs.helpers.Walking.{IsBehind}
+use Rattle.m161_delays.specs.Search.{AreClean, IsFirst}
+use Rattle.m161_delays.proofs.Counting.{right_among}
+use Rattle.m161_delays.proofs.Members.{below_part, from_part}
+use Rattle.m161_delays.proofs.Walking.{walks_itself}
+use Rattle.m161_drive.specs.Choice.{cursor_at}
+use Rattle.m161_machine.specs.History.{IsBootState}
+use Rattle.m161_machine.specs.State.{State}
+use Rattle.m161_order.specs.declared.delays.Delays.{Delays}
+use Rattle.m161_order.specs.declared.order.Order.TheVariants.{Turns, Delayed}
+use Rattle.m161_order.specs.Delays.{delays_of}
+use Rattle.m161_places.specs.Laws.{IsEffective}
+use Rattle.m161_places.proofs.Alike.{choose_alike}
+use Rattle.m161_places.proofs.Effective.{have_effective_part}
+use Rattle.m161_places.proofs.Moving.{run_of_part}
+use Rattle.m161_c.specs.declared.lists.ListSums.{ListSums}
+use Rattle.m161_c.specs.declared.lists.WrongList.{WrongList}
+use Rattle.m161_c.specs.Delays.{HasRightRun, offered_by}
+use Rattle.m161_c.specs.Driven.{rules_in}
+use Rattle.m161_c.specs.Seeds.{Asked, IsRightBy}
+use Rattle.m161_c.specs.helpers.Listing.{HasWrongRun, WalksLists}
+use Rattle.m161_c.proofs.Telling.{booted_as_one}
+
+-- Every list of a class has the run of a useful one.
+
+pub offers_alike : (a : Asked) (steps : ℕ) (s : State) → ChooseAlike (offered_by a steps s)
+offers_alike a steps s =
+    choose_alike a.events (rules_in a.numbers (Turns steps) a.goal.keys) (slice_get a.goal.keys) (record { steps = steps; made = 0 })
+    (cursor_at (rules_in a.numbers (Turns steps) a.goal.keys) s) s
+
+-- the delays of a list that have an effect
+abbrev Effective : Asked → ℕ → State → List ℕ → List ℕ → Type 0
+Effective a steps s all part =
+    IsEffective a.events (rules_in a.numbers (Turns steps) a.goal.keys) (slice_get a.goal.keys) (record { steps = steps; made = 0 })
+    (cursor_at (rules_in a.numbers (Turns steps) a.goal.keys) s) s all part
+
+effective : (a : Asked) (steps : ℕ) (s : State) (all : List ℕ) → (part : List ℕ) × Effective a steps s all part
+effective a steps s all =
+    have_effective_part a.events (rules_in a.numbers (Turns steps) a.goal.keys) (slice_get a.goal.keys) (record { steps = steps; made = 0 })
+    (cursor_at (rules_in a.numbers (Turns steps) a.goal.keys) s) s all
+
+-- they are of the class too
+ascending_any : (from : ℕ) (ns : List ℕ) → IsAscendingFrom from ns → IsAscendingFrom 0 ns
+ascending_any from [] h = tt
+ascending_any from (n ∷ ns) h = (omega arith, h.1)
+
+part_few : (class : Class) (all part : List ℕ) → IsOf class all → (part ≡ all) ⊎ (length part < length all) → length part ≤ class.most
+part_few class all part of (inl same) = let size = ap length same in let few = of.few in omega (arith, size, few)
+part_few class all part of (inr shorter) = let few = of.few in omega (arith, shorter, few)
+
+part_useful : (a : Asked) (steps : ℕ) (s : State) (class : Class) (all part : List ℕ) → IsOf class all → Effective a steps s all part →
+    IsUsefulOf class (offered_by a steps s) part
+part_useful a steps s class all part of h = (
+  record {
+    few = part_few class all part of (h.is_same_or_shorter (ascending_any class.from all of.ascending));
+    ascending = from_part class.from all part of.ascending h.is_ascending h.is_part;
+    below = below_part class.within all part of.below h.is_part;
+  },
+  h.is_useful,
+)
+
+-- the run of a part is the run of the list
+right_of_part : (a : Asked) (steps : ℕ) (s : State) (all : Delays) (part : List ℕ) (is_cut : Bool) → IsBootState a.file a.conf s →
+    Effective a steps s (delays_of all) part → HasRightRun a steps part is_cut → IsRightBy a (Delayed steps all) is_cut
+right_of_part a steps s all part is_cut boots h right =
+    let delays = right.0 in
+    let run = right.2.0 in
+    let told = right.2.1 in
+    let is = told.is_run in
+    let rules = rules_in a.numbers (Turns steps) a.goal.keys in
+    let same : is.booted ≡ s = booted_as_one a.file a.conf is.booted s is.is_booted boots in
+    let of_part : Effective a steps is.booted (delays_of all) (delays_of delays) =
+    subst (λ x. Effective a steps x (delays_of all) (delays_of delays)) (sym same)
+    (subst (λ xs. Effective a steps s (delays_of all) xs) (sym right.1) h) in (
+      run,
+      record {
+        is_run = record {
+          good = is.good;
+          booted = is.booted;
+          is_booted = is.is_booted;
+          driven = is.driven;
+          entries = is.entries;
+          state = is.state;
+          drives = run_of_part rules a.events steps all delays is.booted is.driven is.entries is.state of_part is.drives is.accepted;
+          accepted = is.accepted;
+          events_are = is.events_are;
+          judged = is.judged;
+          cut = is.cut;
+        };
+        is_told = told.is_told;
+      },
+      right.2.2,
+    )
+
+-- each list of a class
+right_each : (a : Asked) (steps : ℕ) (s : State) (class : Class) (all : Delays) → IsBootState a.file a.conf s → IsOf class (delays_of all) →
+    ((part : List ℕ) → IsUsefulOf class (offered_by a steps s) part → Effective a steps s (delays_of all) part →
+    (is_cut : Bool) × HasRightRun a steps part is_cut) → (is_cut : Bool) × IsRightBy a (Delayed steps all) is_cut
+right_each a steps s class all boots of right =
+    let found = effective a steps s (delays_of all) in
+    let useful = part_useful a steps s class (delays_of all) found.0 of found.1 in
+    let run = right found.0 useful found.1 in
+    (run.0, right_of_part a steps s all found.0 run.0 boots found.1 run.1)
+
+pub each_right : (a : Asked) (steps : ℕ) (s : State) (class : Class) (runs cut : ℕ) → IsBootState a.file a.conf s →
+    AreClean class (offered_by a steps s) (HasRightRun a steps) runs cut → (delays : Delays) → IsOf class (delays_of delays) →
+    (is_cut : Bool) × IsRightBy a (Delayed steps delays) is_cut
+each_right a steps s class runs cut boots clean delays of =
+    right_each a steps s class delays boots of
+    (λ part useful h. right_among (HasRightRun a steps) clean.lists clean.all_cut part clean.are_right (clean.are_useful.all part useful))
+
+-- the lists before the first that goes wrong
+before_part : (all part first : List ℕ) → (part ≡ all) ⊎ (length part < length all) → ComesBefore all first → ComesBefore part first
+before_part all part first (inl same) order = subst (λ xs. ComesBefore xs first) (sym same) order
+before_part all part first (inr shorter) (inl less) = inl (omega (arith, shorter, less))
+before_part all part first (inr shorter) (inr same) = let long = same.0 in inl (omega (arith, shorter, long))
+
+pub right_before : {W : Type 0} (a : Asked) (steps : ℕ) (s : State) (class : Class) (wrong : List ℕ → W → Type 0) (first : List ℕ) (what : W) →
+    IsBootState a.file a.conf s → IsFirst class (offered_by a steps s) (HasRightRun a steps) wrong first what →
+    (others : Delays) → IsOf class (delays_of others) → ComesBefore (delays_of others) first → (is_cut : Bool) × IsRightBy a (Delayed steps others) is_cut
+right_before a steps s class wrong first what boots found others of order =
+    right_each a steps s class others boots of
+    (λ part useful h.
+    found.before part useful
+    (before_part (delays_of others) part first (h.is_same_or_shorter (ascending_any class.from (delays_of others) of.ascending)) order))
+
+-- a list goes on behind itself by no number
+pub walks_list : (a : Asked) (steps : ℕ) (class : Class) (offers : List ℕ → List ℕ) (ns : List ℕ) (more : ℕ) (s t : ListSums) (o : Option WrongList) → more ≡ 0 →
+    IsUsefulOf class offers ns → WalksLists a steps (λ z. z ≡ ns) s t o → WalksLists a steps (IsBehind class offers ns more) s t o
+walks_list a steps class offers ns more s t None none useful h =
+    walks_itself class offers (HasRightRun a steps) (HasWrongRun a steps) ns more (record { runs = s.runs; cut = s.cut }) (record { runs = t.runs; cut = t.cut }) None
+    none useful h
+walks_list a steps class offers ns more s t (Some found) none useful h =
+    walks_itself class offers (HasRightRun a steps) (HasWrongRun a steps) ns more (record { runs = s.runs; cut = s.cut }) (record { runs = t.runs; cut = t.cut })
+    (Some (record { delays = found.delays; wrong = found.wrong })) none useful h

@@ -1,0 +1,36 @@
+use Rattle.std.proofs.Common.{Err, Ok, refl, subst, sym}
+use Rattle.m161_judge.specs.Judge.{bytes_of}
+use Rattle.m161_c.specs.Driven.{order_in}
+use Rattle.m161_c.specs.Explored.{criteria_of}
+use Rattle.m161_c.specs.Seeds.{SeeksIn, SeeksOn, asked_with}
+use Rattle.m161_c.proofs.session.Session.seek.Goals as goal
+
+pub returns-in_default : goal.returns-in_default
+returns-in_default c =
+    let g = criteria_of c.args.keys.now c.args.watches.now c.args.never.now (bytes_of c.args.output) in (
+      Err 255,
+      subst (λ m. SeeksOn m (asked_with c.args.file.now c.args.numbers.now c.args.n g c.args.few) c.args.count (Err 255)) (sym c.in_default.is) refl,
+      (refl, refl, refl),
+    )
+
+pub returns-in-Ok : goal.returns-in-Ok
+returns-in-Ok c =
+    let g = criteria_of c.args.keys.now c.args.watches.now c.args.never.now (bytes_of c.args.output) in
+    let told = Ok (c.in-Ok.what, c.in-Ok.events.items) in (
+      told,
+      subst (λ m. SeeksOn m (asked_with c.args.file.now c.args.numbers.now c.args.n g c.args.few) c.args.count told) (sym c.in-Some.is)
+          (subst (λ conf. SeeksIn (order_in c.args.numbers.now) (asked_with c.args.file.now c.args.numbers.now c.args.n g c.args.few conf) c.args.count told)
+          c.conf-conf.ensures c.in-Ok.ensures.ok),
+      (refl, refl, refl, refl),
+    )
+
+pub returns-in-Err : goal.returns-in-Err
+returns-in-Err c =
+    let g = criteria_of c.args.keys.now c.args.watches.now c.args.never.now (bytes_of c.args.output) in
+    let why = Err c.in-Err.answer in (
+      why,
+      subst (λ m. SeeksOn m (asked_with c.args.file.now c.args.numbers.now c.args.n g c.args.few) c.args.count why) (sym c.in-Some.is)
+          (subst (λ conf. SeeksIn (order_in c.args.numbers.now) (asked_with c.args.file.now c.args.numbers.now c.args.n g c.args.few conf) c.args.count why)
+          c.conf-conf.ensures c.in-Err.ensures.err),
+      (refl, refl, refl),
+    )
