@@ -28,7 +28,8 @@
 //! `s161 --help` says what the exit status is.
 //!
 //! `main` only collects the arguments and passes the streams to `start`, which does all work over
-//! any source of files, reader and writers.
+//! any source of files, reader and writers. Where standard input is a terminal, it is told before a schedule
+//! is read from it.
 #![tactic(auto)]
 
 ghost use Rattle.std.specs.Prelude.{◌≡◌, ◌≢◌, ◌⊎◌, IfErr};
@@ -36,20 +37,32 @@ ghost use Rattle.std.specs.IoError.{error_kind};
 
 use s161_work::fault::Fault;
 use s161_work::files::HostFiles;
+use s161_work::prompt::{Prompted, reads_schedule};
 use s161_work::work::start;
-use std::io::ErrorKind;
+use std::io::{ErrorKind, IsTerminal};
 use std::process::ExitCode;
 use std::{env, io};
 
 fn main(rt: HostRuntime) -> ExitCode {
+    let words = arguments(&rt);
+    let is_wanted = rt.stdin().is_terminal() && may_read_schedule(&words);
+    let mut input = Prompted::new(rt.stdin(), rt.stderr(), is_wanted);
     ExitCode::from(start(
         &rt,
-        arguments(&rt),
+        words,
         &mut HostFiles::new(&rt),
-        &mut rt.stdin(),
+        &mut input,
         &mut rt.stdout(),
         &mut rt.stderr(),
     ))
+}
+
+// Whether the words, if they were read, are those of a command that may read a schedule.
+fn may_read_schedule(words: &Result<Vec<String>, Fault<'static>>) -> bool {
+    match words {
+        Ok(words) => reads_schedule(words),
+        Err(_) => false,
+    }
 }
 
 // The words of the command line.

@@ -1,12 +1,11 @@
-use Rattle.std.proofs.Common.{◌≡◌, ◌⊎◌, ℕ, List, Bool, true, false, if◌then◌else◌, Option, None, Some, Result, Ok, Err, inl, inr, refl, subst}
+use Rattle.std.proofs.Common.{◌≡◌, ℕ, List, Bool, true, false, if◌then◌else◌, Option, None, Some, Result, Ok, Err, inl, inr, refl, subst}
 use Rattle.std.specs.Prelude.{IfErr, IfOk}
-use Rattle.m161_machine.specs.declared.event.Event.{Event}
 use Rattle.s161_command.specs.declared.task.AskedSize.{AskedSize}
 use Rattle.s161_base.specs.declared.fault.Fault.{Fault}
-use Rattle.s161_base.specs.declared.fault.Fault.TheVariants.{Conf, File, Image, Input, Log, LogImage, LogMachine, Memory, Never, Output, Schedule, Source, Threads, Touches, Watch, Watches, Word}
+use Rattle.s161_base.specs.declared.fault.Fault.TheVariants.{LogImage, LogMachine}
 use Rattle.s161_base.specs.declared.machines.NamedMachine.{NamedMachine}
 use Rattle.s161_base.specs.declared.machines.NamedMachine.TheVariants.{Logged, Sized}
-use Rattle.s161_base.specs.Listed.{IsListFault, Lists, ListsNone, is_log}
+use Rattle.s161_base.specs.Listed.{IsListFault, ListsNone, is_log}
 use Rattle.s161_base.specs.Machines.{is_image, is_other_machine, machine_fault}
 use Rattle.s161_base.specs.Texts.{IsLogFault, IsScheduleFault}
 use Rattle.s161_base.proofs.Asking.{IsNoFile, none_by}

@@ -17,7 +17,7 @@ use Rattle.m161_drive.specs.declared.cursor.Cursor.{Cursor}
 use Rattle.m161_drive.specs.declared.run.Driven.{Driven}
 use Rattle.m161_drive.specs.Choice.{cursor_at}
 use Rattle.m161_drive.specs.Drive.{Chooses, Drives}
-use Rattle.m161_text.specs.Lines.{lines_of, text_of, with_line_end}
+use Rattle.m161_text.specs.Lines.{text_of, with_line_end}
 use Rattle.m161_trace.specs.Line.{event_line_with}
 use Rattle.m161_trace.specs.Loads.{word_around}
 use Rattle.m161_trace.specs.Touched.{has_word, touched}

@@ -4,6 +4,7 @@
 
 mod going;
 mod printing;
+pub mod prompt;
 mod refusing;
 pub mod work;
 

@@ -1,4 +1,4 @@
-use Rattle.std.proofs.Common.{◌≡◌, ◌∙◌, ap, subst, sym, List, ℕ, ◌++◌, IfSome}
+use Rattle.std.proofs.Common.{◌≡◌, subst, sym, List, ℕ, ◌++◌, IfSome}
 use Rattle.std.proofs.lemmas.Result.{err_from_is_err_and}
 use Rattle.m161_machine.specs.History.{boot_fault}
 use Rattle.s161_base.proofs.Asking.{after_all, asks_both, asks_err, boot_is_none, image_unread, later, memory_is_none}
@@ -8,8 +8,6 @@ use Rattle.s161_base.specs.declared.fault.Fault.TheVariants.{Memory}
 use Rattle.s161_base.specs.Faults.{BootsIn, fault_of_boot}
 use Rattle.s161_base.specs.Samples.{image_file}
 use Rattle.s161_run.specs.Driven.{AreKeys, rules_of}
-use Rattle.m161_steplog.specs.Schedule.{IsSchedule}
-use Rattle.m161_text.specs.Lines.{lines_of}
 use Rattle.s161_run.specs.Schedules.{Chose}
 use Rattle.s161_run.proofs.Keeping.{keys_are, last_unread}
 use Rattle.s161_run.proofs.schedule.schedule.Goals as goal

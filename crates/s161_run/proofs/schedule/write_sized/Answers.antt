@@ -1,4 +1,4 @@
-use Rattle.std.proofs.Common.{◌≡◌, ◌∙◌, ◌++◌, List, ℕ, ap, ap₂, arith, string_bytes, subst, sym}
+use Rattle.std.proofs.Common.{◌∙◌, ◌++◌, List, ℕ, ap, ap₂, arith, string_bytes, subst, sym}
 use Rattle.m161_steplog.specs.Schedule.{IsSchedule}
 use Rattle.m161_text.specs.Lines.{lines_of}
 use Rattle.s161_base.specs.Sizes.{machine_size}
