@@ -7,7 +7,7 @@ for source; do
     file=${source%.s}
     if said=$("$s161" as --symbols 2>&1 <"$source" >"$file.elf"); then
         "$s161" search "$file.elf" --cpus 2 --delays 2 --within 100 --events 2000 >"$file.schedule"
-        said=$(head -n 2 "$file.schedule" | paste -s -d ' ' -)
+        said=$(sed '/^# machine /d' "$file.schedule" | head -n 2 | paste -s -d ' ' -)
     fi
     echo "${file##*/}: $said"
 done

@@ -56,6 +56,8 @@ class Course:
         events = []
         for line in schedule.splitlines():
             parts = line.split()
+            if parts[0] == "#":  # the machine line
+                continue
             if parts[0] == "s" and len(parts) == 3:
                 events += [f"s {parts[1]}"] * int(parts[2])
             else:

@@ -48,6 +48,15 @@ def events_of(schedule):
     return events
 
 
+def machine_of(text):
+    """The machine line of a schedule, or the one that a log's machine line is for a schedule, without the
+    image; nothing where the text has none."""
+    words = text.split("\n", 1)[0].split(" ")
+    if words[:2] != ["#", "machine"]:
+        return ""
+    return " ".join(word for word in words if len(word) < 64) + "\n"
+
+
 PRINTER = """# Prints {count} bytes, and switches the machine off.
         lui $8, 0xbfe0
         ori $11, $0, {count}
@@ -238,7 +247,9 @@ def small(make):
     images(make)
     hello = make.example("hello.schedule").encode()
     make.write("hello.schedule", hello)
-    make.write("hello.log", make.said(["run", "hello.elf", "--only-log"], hello))
+    hello_log = make.said(["run", "hello.elf", "--only-log"], hello)
+    make.write("hello.log", hello_log)
+    small_hello = b"# machine 65536 1\n" + hello
     shootdown = make.example("shootdown.schedule").encode()
     make.write("sample.log", make.said(["run", "@sample", "--cpus", "2", "--only-log"], shootdown))
     keys = make.write("few-keys", "start\n\x7foff\n")
@@ -255,6 +266,7 @@ def small(make):
         return Command(["gdb", *words], "gdb", b"".join(PACKETS), of="packets", parts=PACKETS)
 
     chosen = make.said(["schedule", "turns.elf", *two, *at_random]).decode()
+    make.write("chosen.schedule", chosen)
     sample = make.said(["run", "@sample", "--cpus", "2", "--only-log"], shootdown).decode()
     return [
         Command(["demo"]),
@@ -270,6 +282,8 @@ def small(make):
         Command(["run", "hello.elf", *one, "--only-output"], "scheduled", hello),
         Command(["run", "hello.elf", *one, "--log", "3", "--show-log"], "scheduled", hello),
         Command(["run", "@sample", *two, "--show-log"], "scheduled", shootdown),
+        Command(["run", "hello.elf", "--only-log"], "scheduled", small_hello, of="a machine line"),
+        Command(["run", "hello.elf", "--show-log"], "scheduled", hello_log, of="a log"),
         Command(["run", "hello.elf", *one, "--turns", "1"], "driven"),
         Command(["run", "turns.elf", *two, *at_random, "--show-log"], "driven"),
         Command(["run", "turns.elf", *two, *priorities, "--only-log"], "driven"),
@@ -289,6 +303,7 @@ def small(make):
         Command(["replay", "hello.elf", "hello.log"]),
         Command(["replay", "@sample", "sample.log", "--cpus", "2", "--log", "5"]),
         Command(["audit", "@sample", "page.watches", *two], text=shootdown),
+        Command(["audit", "@sample", "page.watches"], text=sample.encode(), of="a log"),
         Command(
             ["audit", "hasty.elf", "page.watches", *two, "--log", "9"],
             text=make.example("hasty.schedule").encode(),
@@ -314,10 +329,13 @@ def small(make):
         debug(["hello.elf", "hello.schedule", *one], one, events_of(hello.decode())),
         debug(["@sample", "sample.log"], ["--cpus", "2"], events_of(sample)),
         debug(["turns.elf", *two, *at_random], two, events_of(chosen)),
+        debug(["turns.elf", "chosen.schedule"], two, events_of(chosen)),
         debug(["named.elf", *two, *at_random, "--symbols"], two, events_of(chosen), NAMED_SESSION),
         gdb("hello.elf", "hello.schedule", *one),
         gdb("turns.elf", *two, *at_random),
         Command(["trace", "hello.elf", *one], "traced", hello),
+        Command(["trace", "hello.elf"], "traced", small_hello, of="a machine line"),
+        Command(["trace", "hello.elf"], "traced", hello_log, of="a log"),
         Command(["trace", "turns.elf", *two, *at_random, "--names"], "traced"),
         Command(["trace", "named.elf", *two, *at_random, "--symbols"], "traced"),
         Command(["trace", "shell.elf", *two, *typed, "--from", "900", "--count", "20"], "traced"),
@@ -327,6 +345,7 @@ def small(make):
 
 def words_and_faults(make):
     """Command lines without a task, help, and faults."""
+    off_log = make.said(["run", "off.elf", "--only-log"], b"s 0 2\n")
     make.write("short.elf", b"\x7fELF")
     make.write("bad.schedule", "s 0\ns 0 0\n")
     make.write("wrong.log", "m161 log 2 word\ns 0 went\n")
@@ -348,6 +367,10 @@ def words_and_faults(make):
         Command(["run", "short.elf"], text=b"", ends=1),
         Command(["run", "off.elf", "--cpus", "33"], text=b"", ends=1),
         Command(["run", "off.elf"], text=b"s 0\ns 0 0\n", ends=1, of="bad.schedule"),
+        Command(["run", "off.elf"], text=b"# machine 4097 1\ns 0\n", ends=1, of="a machine line of none"),
+        Command(["run", "off.elf"], text=b"m161 log 2 word\ns 0 went\n", ends=1, of="wrong.log"),
+        Command(["run", "off.elf", "--cpus", "2"], text=off_log, ends=1, of="off.log"),
+        Command(["trace", "@sample"], text=off_log, ends=1, of="off.log"),
         Command(["run", "off.elf"], text=b"# \xff\n", ends=1, of="bytes"),
         Command(["as"], text=b"nop\naddi $1, $2, 40000\n", ends=1, of="bad.s"),
         Command(["replay", "off.elf", "bytes"], ends=1),

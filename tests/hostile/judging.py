@@ -145,8 +145,9 @@ def wanted_of_stop(command, k, line):
 def first_events(command, k):
     """The words and the input of the same run with its first K events."""
     if command.kind == "scheduled":
-        events = commands.events_of(command.text.decode())[:k]
-        return command.words, "".join(f"{event}\n" for event in events).encode()
+        text = command.text.decode()
+        events = commands.events_of(text)[:k]
+        return command.words, (commands.machine_of(text) + "".join(f"{event}\n" for event in events)).encode()
     return option(command.words, "--events", str(k)), command.text
 
 

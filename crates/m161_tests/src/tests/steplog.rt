@@ -4,7 +4,8 @@ use super::same;
 use m161::{Console, Tlb};
 use m161_machine::{Conf, Entry, Event, LinkUnit, Outcome};
 use m161_steplog::{
-    Comparison, Mode, TextFault, entry_line, read_log, read_schedule, verify, write_log, write_tail,
+    Comparison, MachineSize, Mode, TextFault, entry_line, read_log, read_schedule, read_size,
+    size_line, verify, write_log, write_tail,
 };
 use m161_test_support::files::file_at;
 use m161_test_support::outcomes::ENTRY;
@@ -51,6 +52,52 @@ fn log_text(rt: HostRuntime) -> Result<(), Fail> {
         Event::Done,
     ];
     same(&rt, events.as_slice(), expected.as_slice());
+    Ok(())
+}
+
+#[test]
+fn machine_lines(rt: HostRuntime) -> Result<(), Fail> {
+    for (ram, processors, link, strict, line) in [
+        (1_048_576, 2, LinkUnit::Word, false, "# machine 1048576 2\n"),
+        (28_672, 3, LinkUnit::Line, false, "# machine 28672 3 line\n"),
+        (0, 0, LinkUnit::Word, true, "# machine 0 0 strict\n"),
+        (
+            u32::MAX,
+            u32::MAX,
+            LinkUnit::Line,
+            true,
+            "# machine 4294967295 4294967295 line strict\n",
+        ),
+    ] {
+        let size = MachineSize {
+            ram,
+            processors,
+            mode: Mode { link, strict },
+        };
+        let written = size_line(rt.alloc(), size)?;
+        same(&rt, written.as_str(), line);
+        same(&rt, read_size(line), Some(size));
+        let text = format!(in rt.alloc(); "{line}s 0\nanything")?;
+        same(&rt, read_size(text.as_str()), Some(size));
+    }
+    for text in [
+        "",
+        "s 0",
+        "\n# machine 4096 1",
+        "#\n# machine 4096 1",
+        "# machine 4096",
+        "# machine 04096 1",
+        "# machine 4096  1",
+        "# machine 4096 1 ",
+        "# machine 4096 1\r",
+        "# machine 4096 1 word",
+        "# machine 4096 1 strict line",
+        "# machine 4096 1 line  strict",
+        "# machine 4294967296 1",
+        " # machine 4096 1",
+    ] {
+        same(&rt, (text, read_size(text)), (text, None));
+    }
     Ok(())
 }
 

@@ -1,4 +1,5 @@
-//! `replay` and `debug`: an image with a log or a schedule, and what is printed.
+//! `replay` and `debug`: an image with a log or a schedule, and what is printed; `run`, `trace` and `audit`
+//! over a log.
 
 use super::run::{LINKED, POWER_OFF, REST, START_OTHER, ZEROS, join, work_over};
 use super::same;
@@ -395,7 +396,7 @@ static DEBUG_FAULTS: [Case; 5] = [
 ];
 
 /// The unit of links that a log names, or that is given.
-static UNITS: [Case; 11] = [
+static UNITS: [Case; 13] = [
     // line-replay
     Case {
         words: &["s161", "replay", "image", "text"],
@@ -480,7 +481,7 @@ static UNITS: [Case; 11] = [
         output: &[],
         errors: "s161: log machine (an option that is given isn't that of the log's machine)\n",
     },
-    // a schedule names no unit
+    // a schedule without a machine line names no unit
     Case {
         words: &["s161", "debug", "image", "text"],
         program: &LINKED,
@@ -499,7 +500,147 @@ static UNITS: [Case; 11] = [
         output: &["end 7\ns 0 trap 9 80000080\n"],
         errors: "",
     },
+    // its machine line does, where none is given
+    Case {
+        words: &["s161", "debug", "image", "text"],
+        program: &LINKED,
+        text: &["# machine 1048576 1 line\ns 0 7\n"],
+        input: "g\nl 1\n",
+        status: 0,
+        output: &["end 7\ns 0 trap 9 80000080\n"],
+        errors: "",
+    },
+    Case {
+        words: &["s161", "debug", "image", "text", "--link", "word"],
+        program: &LINKED,
+        text: &["# machine 1048576 1 line\ns 0 7\n"],
+        input: "g\nl 1\n",
+        status: 0,
+        output: &["end 7\ns 0 ran\n"],
+        errors: "",
+    },
 ];
+
+/// A log on standard input, in the place of a schedule.
+static LOGS: [Case; 10] = [
+    Case {
+        words: &["s161", "run", "image"],
+        program: &START_OTHER,
+        text: &[""],
+        input: TWO_WITH_MACHINE,
+        status: 3,
+        output: &[
+            "cpu 0 running pc 80000218\n",
+            ZEROS,
+            "r8 bfff0000 r9 80000220 r10 bfff8700 r11 00000002\n",
+            REST,
+            "stop: end\n",
+        ],
+        errors: "",
+    },
+    Case {
+        words: &["s161", "run", "image", "--cpus=2"],
+        program: &START_OTHER,
+        text: &[""],
+        input: TWO_WITH_MACHINE,
+        status: 3,
+        output: &[
+            "cpu 0 running pc 80000218\n",
+            ZEROS,
+            "r8 bfff0000 r9 80000220 r10 bfff8700 r11 00000002\n",
+            REST,
+            "stop: end\n",
+        ],
+        errors: "",
+    },
+    Case {
+        words: &["s161", "audit", "image", "text"],
+        program: &START_OTHER,
+        text: &["w 5 00400 00003000 00003004\n"],
+        input: TWO_WITH_MACHINE,
+        status: 0,
+        output: &["clean\n"],
+        errors: "",
+    },
+    Case {
+        words: &["s161", "trace", "image", "--from=6"],
+        program: &LINKED,
+        text: &[""],
+        input: "m161 log 2 line\ns 0 ran\ns 0 ran\ns 0 ran\ns 0 ran\ns 0 ran\ns 0 ran\ns 0 ran\n",
+        status: 3,
+        output: &[
+            "6 0 80000218 0000000d break  cause=00000024 epc=80000218 trap 9 80000080\nstop: end\n",
+        ],
+        errors: "",
+    },
+    // outcomes don't count
+    Case {
+        words: &["s161", "run", "image"],
+        program: &POWER_OFF,
+        text: &[""],
+        input: "m161 log 2 word\ns 0 ran\ns 0 ran\n",
+        status: 0,
+        output: &[
+            "cpu 0 running pc 80000208\n",
+            ZEROS,
+            "r8 bfff0000 r9 00000000 r10 00000000 r11 00000000\n",
+            REST,
+            "stop: off\n",
+        ],
+        errors: "",
+    },
+    // another machine than the log's, another image, and a bad line
+    Case {
+        words: &["s161", "run", "image", "--cpus=1"],
+        program: &START_OTHER,
+        text: &[""],
+        input: TWO_WITH_MACHINE,
+        status: 1,
+        output: &[],
+        errors: "s161: log machine (an option that is given isn't that of the log's machine)\n",
+    },
+    Case {
+        words: &["s161", "trace", "image", "--strict"],
+        program: &START_OTHER,
+        text: &[""],
+        input: TWO_WITH_MACHINE,
+        status: 1,
+        output: &[],
+        errors: "s161: log machine (an option that is given isn't that of the log's machine)\n",
+    },
+    Case {
+        words: &["s161", "audit", "image", "text", "--link=line"],
+        program: &START_OTHER,
+        text: &[""],
+        input: TWO_WITH_MACHINE,
+        status: 1,
+        output: &[],
+        errors: "s161: log machine (an option that is given isn't that of the log's machine)\n",
+    },
+    Case {
+        words: &["s161", "run", "image"],
+        program: &POWER_OFF,
+        text: &[""],
+        input: TWO_WITH_MACHINE,
+        status: 1,
+        output: &[],
+        errors: "s161: log image (the log is that of another image)\n",
+    },
+    Case {
+        words: &["s161", "run", "image", "--cpus=33"],
+        program: &POWER_OFF,
+        text: &[""],
+        input: "m161 log 2 word\ns 0 went\n",
+        status: 1,
+        output: &[],
+        errors: "s161: log line 2 (after m161 log 2 word, m161 log 2 line or m161 log 1 a line is s P ran, s P trap CODE VECTOR, s P idle, s P off, k HH taken or o taken; after m161 log 3 word strict or m161 log 3 line strict also s P conflict I J)\n",
+    },
+];
+
+#[test]
+fn logs_as_schedules(rt: HostRuntime) -> Result<(), Fail> {
+    check(&rt, &LOGS)
+}
 
 #[test]
 fn line_replay(rt: HostRuntime) -> Result<(), Fail> {

@@ -349,7 +349,7 @@ static OUTPUTS: [Case; 8] = [
         program: &POWER_OFF,
         schedule: "",
         status: 0,
-        output: &[&["s 0 2\n"]],
+        output: &[&["# machine 1048576 1\ns 0 2\n"]],
         errors: "",
     },
     // a line end is added where one lacks
@@ -502,6 +502,128 @@ static UNITS: [Case; 6] = [
     },
 ];
 
+// The machine line of a schedule.
+static NAMED: [Case; 13] = [
+    Case {
+        words: &["s161", "run", "image"],
+        program: &START_OTHER,
+        schedule: "# machine 1048576 2\ns 0 7\ns 1\n",
+        status: 3,
+        output: &[&TWO, &["stop: end\n"]],
+        errors: "",
+    },
+    // what is given counts
+    Case {
+        words: &["s161", "run", "image", "--cpus=1"],
+        program: &POWER_OFF,
+        schedule: "# machine 1048576 2\ns 1 2\n",
+        status: 1,
+        output: &[&[AT_ENTRY, "stop: refused 0 1 BadProcessor\n"]],
+        errors: "",
+    },
+    Case {
+        words: &["s161", "run", "image", "--cpus", "3", "--ram=4096"],
+        program: &POWER_OFF,
+        schedule: "# machine 65536 2 strict\ns 2\n",
+        status: 3,
+        output: &[&[AT_ENTRY, "stop: end\n"]],
+        errors: "",
+    },
+    // what links are to, and a strict machine
+    Case {
+        words: &["s161", "run", "image", "--only-log"],
+        program: &LINKED,
+        schedule: "# machine 1048576 1 line\ns 0 7\n",
+        status: 3,
+        output: &[&[
+            LINKED_MACHINE,
+            "m161 log 2 line\n",
+            SIX,
+            "s 0 trap 9 80000080\n",
+        ]],
+        errors: "stop: end\n",
+    },
+    Case {
+        words: &["s161", "run", "image", "--only-log"],
+        program: &LINKED,
+        schedule: "# machine 1048576 1 line strict\ns 0 7\n",
+        status: 3,
+        output: &[&[
+            LINKED_MACHINE,
+            "m161 log 3 line strict\n",
+            SIX,
+            "s 0 trap 9 80000080\n",
+        ]],
+        errors: "stop: end\n",
+    },
+    Case {
+        words: &["s161", "run", "image", "--only-log"],
+        program: &LINKED,
+        schedule: "# machine 1048576 1 strict\ns 0 7",
+        status: 3,
+        output: &[&[LINKED_MACHINE, "m161 log 3 word strict\n", SIX, "s 0 ran\n"]],
+        errors: "stop: end\n",
+    },
+    Case {
+        words: &["s161", "run", "image", "--only-log", "--link=word"],
+        program: &LINKED,
+        schedule: "# machine 1048576 1 line strict\ns 0 7\n",
+        status: 3,
+        output: &[&[LINKED_MACHINE, "m161 log 3 word strict\n", SIX, "s 0 ran\n"]],
+        errors: "stop: end\n",
+    },
+    // the first line alone, in exactly its form
+    Case {
+        words: &["s161", "run", "image"],
+        program: &POWER_OFF,
+        schedule: "#\n# machine 1048576 2\ns 1 2\n",
+        status: 1,
+        output: &[&[AT_ENTRY, "stop: refused 0 1 BadProcessor\n"]],
+        errors: "",
+    },
+    Case {
+        words: &["s161", "run", "image"],
+        program: &POWER_OFF,
+        schedule: "# machine 1048576 02\ns 1 2\n",
+        status: 1,
+        output: &[&[AT_ENTRY, "stop: refused 0 1 BadProcessor\n"]],
+        errors: "",
+    },
+    Case {
+        words: &["s161", "run", "image"],
+        program: &POWER_OFF,
+        schedule: "# machine 1048576 2\r\ns 1 2\n",
+        status: 1,
+        output: &[&[AT_ENTRY, "stop: refused 0 1 BadProcessor\n"]],
+        errors: "",
+    },
+    Case {
+        words: &["s161", "run", "image"],
+        program: &POWER_OFF,
+        schedule: "# machine 1048576 2 word\ns 1 2\n",
+        status: 1,
+        output: &[&[AT_ENTRY, "stop: refused 0 1 BadProcessor\n"]],
+        errors: "",
+    },
+    // a machine that there is not, and a bad line before it
+    Case {
+        words: &["s161", "run", "image"],
+        program: &POWER_OFF,
+        schedule: "# machine 4097 1\ns 0 2\n",
+        status: 1,
+        output: &[],
+        errors: "s161: conf (RAM has 1 to 4096 pages of 4096 bytes, there are 1 to 32 processors, and a log has 1 to 16777216 entries)\n",
+    },
+    Case {
+        words: &["s161", "run", "image"],
+        program: &POWER_OFF,
+        schedule: "# machine 4097 1\ns 0 0\n",
+        status: 1,
+        output: &[],
+        errors: "s161: schedule line 2 (a line is s P, s P N, k HH, o, blank or # ..)\n",
+    },
+];
+
 static FAULTS: [Case; 8] = [
     Case {
         words: &["s161", "run", "other"],
@@ -579,6 +701,11 @@ fn stops(rt: HostRuntime) -> Result<(), Fail> {
 #[test]
 fn link_units(rt: HostRuntime) -> Result<(), Fail> {
     check(&rt, &UNITS)
+}
+
+#[test]
+fn named_machines(rt: HostRuntime) -> Result<(), Fail> {
+    check(&rt, &NAMED)
 }
 
 #[test]
