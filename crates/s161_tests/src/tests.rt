@@ -1,5 +1,5 @@
 //! Tests of the program's commands, of the assembler and of the debugger. `program`, `run`,
-//! `sample`, `faulty`, `going`, `over_files`, `texts` and `traps` try the commands, over the streams
+//! `sample`, `faulty`, `going`, `over_files`, `prompt`, `texts` and `traps` try the commands, over the streams
 //! of `streams`.
 
 mod asm;
@@ -8,6 +8,7 @@ mod faulty;
 mod going;
 mod over_files;
 mod program;
+mod prompt;
 mod run;
 mod sample;
 mod streams;
