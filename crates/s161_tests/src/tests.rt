@@ -1,6 +1,6 @@
 //! Tests of the program's commands, of the assembler and of the debugger. `program`, `run`,
-//! `sample`, `faulty`, `going`, `over_files`, `prompt`, `texts` and `traps` try the commands, over the streams
-//! of `streams`.
+//! `sample`, `faulty`, `going`, `over_files`, `prompt`, `texts`, `traps` and `units` try the commands, over the
+//! streams of `streams`.
 
 mod asm;
 mod debug;
@@ -14,6 +14,7 @@ mod sample;
 mod streams;
 mod texts;
 mod traps;
+mod units;
 
 use std::fmt::Debug;
 use std::process::Abort;

@@ -1,9 +1,10 @@
 //! `replay` and `debug`: an image with a log or a schedule, and what is printed; `run`, `trace` and `audit`
 //! over a log.
 
-use super::run::{LINKED, POWER_OFF, REST, START_OTHER, ZEROS, join, work_over};
+use super::run::{POWER_OFF, REST, START_OTHER, ZEROS, join, work_over};
 use super::same;
 use super::streams::{Failing, Memory, TwoFiles, all};
+use super::units::LINKED;
 use m161_test_support::files::file_at;
 use m161_test_support::outcomes::ENTRY;
 use s161_work::work::work;
