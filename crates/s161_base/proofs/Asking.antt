@@ -9,7 +9,7 @@ use Rattle.s161_base.specs.Reading.{IsFileUnread, IsInputUnread, IsOfBytes}
 use Rattle.s161_base.specs.Samples.{IsFileName}
 use Rattle.s161_base.specs.Texts.{IsScheduleFault}
 use Rattle.s161_base.specs.declared.fault.Fault.{Fault}
-use Rattle.s161_base.specs.declared.fault.Fault.TheVariants.{Conf, File, Image, Input, Log, LogImage, LogMachine, Memory, Never, Output, Schedule, Source, Threads, Touches, Watch, Watches, Word}
+use Rattle.s161_base.specs.declared.fault.Fault.TheVariants.{After, Conf, File, Image, Input, Log, LogImage, LogMachine, Memory, Never, Output, Schedule, Source, Threads, Touches, Watch, Watches, Word}
 use Rattle.s161_base.specs.declared.fault.Unread.{Unread}
 
 -- The order in which files are asked for.
@@ -62,6 +62,7 @@ none_by P not (Watches n) h = tt
 none_by P not (Watch k) h = tt
 none_by P not (Never word) h = tt
 none_by P not (Touches word) h = tt
+none_by P not (After k why) h = tt
 none_by P not Conf h = tt
 none_by P not (Image e) h = tt
 none_by P not (Source e) h = tt

@@ -6,7 +6,7 @@ use Rattle.m161_cause.specs.declared.cause.Cause.TheVariants as cause
 use Rattle.m161_elf.specs.declared.image.LoadError.{LoadError}
 use Rattle.m161_elf.specs.declared.image.LoadError.TheVariants as load
 use Rattle.s161_base.specs.declared.fault.Fault.{Fault}
-use Rattle.s161_base.specs.declared.fault.Fault.TheVariants.{Conf, File, Image, Input, Log, LogImage, LogMachine, Memory, Never, Output, Schedule, Source, Threads, Touches, Watch, Watches, Word}
+use Rattle.s161_base.specs.declared.fault.Fault.TheVariants.{After, Conf, File, Image, Input, Log, LogImage, LogMachine, Memory, Never, Output, Schedule, Source, Threads, Touches, Watch, Watches, Word}
 use Rattle.s161_base.specs.declared.fault.Unread.{Unread}
 use Rattle.s161_base.specs.declared.fault.Unread.TheVariants.{Failed, NotUtf8, TooLong}
 
@@ -72,6 +72,7 @@ explanation_of (Watches n) = Some (codes "a line is w ID PAGE PTE DONE, blank or
 explanation_of (Watch k) = Some (codes "its identifier or its page doesn't exist, or its words aren't two words of RAM")
 explanation_of (Never word) = Some (codes "1 to 8 lower case hexadecimal digits, a name of the image's symbols, or NAME+DIGITS")
 explanation_of (Touches word) = Some (codes "1 to 8 lower case hexadecimal digits, a name of the image's symbols, or NAME+DIGITS, of a byte of RAM")
+explanation_of (After k why) = Some (codes "the machine refuses this event, counted from 0")
 explanation_of Conf = Some (codes "RAM has 1 to 4096 pages of 4096 bytes, there are 1 to 32 processors, and a log has 1 to 16777216 entries")
 explanation_of (Image e) = Some (of_image e)
 explanation_of (Source e) = Some (of_source e.error.kind)

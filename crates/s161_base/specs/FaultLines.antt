@@ -4,9 +4,10 @@ use Rattle.m161_asm.specs.declared.error.AsmError.{AsmError}
 use Rattle.m161_asm.specs.Kinds.{name_of_kind, number_of_kind}
 use Rattle.m161_cause.specs.Cause.{name_of_cause}
 use Rattle.m161_elf.specs.LoadError.{name_of_fault, number_of_fault}
+use Rattle.m161_machine.specs.Refusal.{name_of_refusal, number_of_refusal}
 use Rattle.m161_text.specs.Parts.{◌␣◌, hex_text}
 use Rattle.s161_base.specs.declared.fault.Fault.{Fault}
-use Rattle.s161_base.specs.declared.fault.Fault.TheVariants.{Conf, File, Image, Input, Log, LogImage, LogMachine, Memory, Never, Output, Schedule, Source, Threads, Touches, Watch, Watches, Word}
+use Rattle.s161_base.specs.declared.fault.Fault.TheVariants.{After, Conf, File, Image, Input, Log, LogImage, LogMachine, Memory, Never, Output, Schedule, Source, Threads, Touches, Watch, Watches, Word}
 use Rattle.s161_base.specs.Excerpts.{characters_of}
 use Rattle.s161_base.specs.Explained.{explanation_of}
 
@@ -40,6 +41,8 @@ fault_head (Watches n) = codes "s161: watches line" ␣ decimal n
 fault_head (Watch k) = codes "s161: watch" ␣ decimal k
 fault_head (Never word) = codes "s161: never" ␣ shown_name word.now
 fault_head (Touches word) = codes "s161: touches" ␣ shown_name word.now
+fault_head (After k why) =
+    codes "s161: after" ␣ decimal k ␣ decimal (number_of_refusal why) ␣ name_of_refusal why
 fault_head Conf = codes "s161: conf"
 fault_head (Image e) = codes "s161: image" ␣ decimal (number_of_fault e) ␣ name_of_fault e
 fault_head (Source e) = codes "s161: source" ␣ source_text e.error

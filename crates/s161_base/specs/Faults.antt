@@ -7,13 +7,15 @@ use Rattle.m161_elf.specs.declared.image.LoadError.TheVariants as fault
 use Rattle.m161_machine.specs.declared.conf.Conf.{Conf as Size}
 use Rattle.m161_machine.specs.declared.conf.BootError.{BootError}
 use Rattle.m161_machine.specs.declared.conf.BootError.TheVariants.{BadConf, Load, NoMemory}
+use Rattle.m161_machine.specs.declared.event.Refusal.{Refusal}
+use Rattle.m161_machine.specs.declared.event.Refusal.TheVariants as refusal
 use Rattle.m161_steplog.specs.declared.fault.TextFault.{TextFault}
 use Rattle.m161_steplog.specs.declared.fault.TextFault.TheVariants as text
 use Rattle.m161_machine.specs.History.{History, Boots, IsBootState, boot_fault}
 use Rattle.m161_machine.specs.State.{State}
 use Rattle.s161_base.specs.declared.excerpt.SourceError.{SourceError}
 use Rattle.s161_base.specs.declared.fault.Fault.{Fault}
-use Rattle.s161_base.specs.declared.fault.Fault.TheVariants.{Conf, Image, Log, Memory, Schedule, Source, Watches}
+use Rattle.s161_base.specs.declared.fault.Fault.TheVariants.{After, Conf, Image, Log, Memory, Schedule, Source, Watches}
 use Rattle.s161_base.specs.Excerpts.{IsWordAt, characters_of}
 
 -- How a command boots a file, and why it ends early.
@@ -46,6 +48,11 @@ fault_of_log text.NoMemory = Memory
 abbrev pub fault_of_watches : TextFault → Fault
 fault_of_watches (text.Line n) = Watches n
 fault_of_watches text.NoMemory = Memory
+
+-- why the machine refused event k, from 0, of the file of `--after`, as a fault of the command
+abbrev pub fault_of_first : ℕ → Refusal → Fault
+fault_of_first k refusal.NoMemory = Memory
+fault_of_first k why = After k why
 
 -- why a file isn't loaded, as a fault of the command
 abbrev pub fault_of_load : LoadError → Fault

@@ -1,4 +1,5 @@
 use Rattle.std.specs.Prelude.{◌≡◌, ◌⊎◌, ℕ, Bool, true, false, nat_eq, if◌then◌else◌, List, [], ◌∷◌, Option, None, Some, codes}
+use Rattle.std.proofs.Common.{Bor}
 use Rattle.std.specs.List.{starts_with}
 use Rattle.m161_machine.specs.declared.conf.Conf.{Conf}
 use Rattle.m161_machine.specs.declared.event.Entry.{Entry}
@@ -14,7 +15,7 @@ use Rattle.s161_base.specs.declared.fault.Fault.TheVariants.{Log, Memory, Schedu
 use Rattle.s161_base.specs.declared.machines.NamedMachine.{NamedMachine}
 use Rattle.s161_base.specs.declared.machines.NamedMachine.TheVariants.{Logged, Sized}
 use Rattle.s161_base.specs.Known.{OfKnown, OfText}
-use Rattle.s161_base.specs.Machines.{IsLogOf, asked_conf, machine_fault}
+use Rattle.s161_base.specs.Machines.{IsLogOf, asked_conf, conf_asked, machine_fault}
 
 -- The events of a text, which is a schedule or a log, and what it says of their machine.
 
@@ -79,3 +80,37 @@ OfListed asked image known IsSo =
 abbrev pub OfUnlisted : AskedSize → Option (List ℕ) → Option (List ℕ) → Fault → Type 0
 OfUnlisted asked image known fault =
     OfKnown image (λ file. OfText known (λ text. ListsNone asked file text fault))
+
+-- The events that come before those of an order: those of the file of `--after`, if it is given.
+
+-- a text is that of the file of a name, as far as its bytes are known; none without a name
+abbrev pub IsTextOf :
+    Option (Bor (List ℕ)) → (List ℕ → Option (List ℕ)) → Option (List ℕ) → Type 0
+IsTextOf None files text = text ≡ None
+IsTextOf (Some name) files text = OfText (files name.now) (λ bytes. text ≡ Some bytes)
+
+-- these events come first, for an image's file, in this machine: those of a text; without one none
+abbrev pub ListsFirst : AskedSize → List ℕ → Option (List ℕ) → List Event → Conf → Type 0
+ListsFirst asked file None events conf = (events ≡ []) × (conf ≡ conf_asked asked)
+ListsFirst asked file (Some text) events conf = ListsFor asked file text events conf
+
+-- why a text lists none
+abbrev pub ListsNoFirst : AskedSize → List ℕ → Option (List ℕ) → Fault → Type 0
+ListsNoFirst asked file None fault = ⊥
+ListsNoFirst asked file (Some text) fault = ListsNone asked file text fault
+
+-- this holds of the image's file, of the events that come first and of the machine, as far as the files
+-- are known
+abbrev pub OfFirst :
+    AskedSize → Option (List ℕ) → Option (Bor (List ℕ)) → (List ℕ → Option (List ℕ)) →
+    (List ℕ → List Event → Conf → Type 0) → Type 0
+OfFirst asked image name files IsSo =
+    OfKnown image (λ file. (text : Option (List ℕ)) × (events : List Event) × (conf : Conf)
+    × IsTextOf name files text × ListsFirst asked file text events conf × IsSo file events conf)
+
+-- this is why no events come first, as far as the files are known
+abbrev pub OfNoFirst :
+    AskedSize → Option (List ℕ) → Option (Bor (List ℕ)) → (List ℕ → Option (List ℕ)) → Fault → Type 0
+OfNoFirst asked image name files fault =
+    OfKnown image (λ file. (text : Option (List ℕ)) × IsTextOf name files text
+    × ListsNoFirst asked file text fault)

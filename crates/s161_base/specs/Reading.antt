@@ -1,4 +1,4 @@
-use Rattle.std.specs.Prelude.{◌≡◌, ℕ, List, Option}
+use Rattle.std.specs.Prelude.{◌≡◌, ℕ, List, Option, None, Some}
 use Rattle.std.proofs.Common.{Bor}
 use Rattle.s161_base.specs.declared.fault.Fault.{Fault}
 use Rattle.s161_base.specs.declared.fault.Fault.TheVariants.{File, Input}
@@ -28,3 +28,9 @@ IsFileUnread name IsReason fault = (why : Unread) × (fault ≡ File name why) �
 -- a fault is that of standard input, which is a text
 abbrev pub IsInputUnread : Option (List ℕ) → Fault → Type 0
 IsInputUnread known fault = (why : Unread) × (fault ≡ Input why) × IsOfText known why
+
+-- a fault is that of the file of an option, if it is given, which is a text
+abbrev pub IsTextUnread :
+    Option (Bor (List ℕ)) → (List ℕ → Option (List ℕ)) → Fault → Type 0
+IsTextUnread None files fault = ⊥
+IsTextUnread (Some name) files fault = IsFileUnread name (IsOfText (files name.now)) fault

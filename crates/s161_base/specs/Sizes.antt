@@ -17,14 +17,14 @@ conf_of size = record {
   strict = size.strict;
 }
 
--- a machine of this size, as a machine line says it
-abbrev pub machine_size : Size → MachineSize
-machine_size size = record {
-  ram = size.ram;
-  processors = size.processors;
-  mode = record { link = size.link; strict = size.strict };
+-- a machine, as a machine line says it
+abbrev pub machine_size : Conf → MachineSize
+machine_size conf = record {
+  ram = conf.ram;
+  processors = conf.processors;
+  mode = record { link = conf.link; strict = conf.strict };
 }
 
 -- the machine line of a schedule of its events, with its end
-abbrev pub size_line_text : Size → List ℕ
-size_line_text size = with_line_end (size_text (machine_size size))
+abbrev pub size_line_text : Conf → List ℕ
+size_line_text conf = with_line_end (size_text (machine_size conf))

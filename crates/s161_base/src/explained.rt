@@ -32,6 +32,7 @@ pub fn explanation(fault: &Fault<'_>) -> Option<&'static str>
         Fault::Touches(_) => Some(
             "1 to 8 lower case hexadecimal digits, a name of the image's symbols, or NAME+DIGITS, of a byte of RAM",
         ),
+        Fault::After(_, _) => Some("the machine refuses this event, counted from 0"),
         Fault::Conf => Some(
             "RAM has 1 to 4096 pages of 4096 bytes, there are 1 to 32 processors, and a log has 1 to 16777216 entries",
         ),

@@ -1,14 +1,14 @@
 //! Why a command ends early.
 
 ghost use Rattle.std.specs.Prelude.{◌≡◌};
-ghost use Rattle.s161_base.specs.Faults.{fault_of_boot, fault_of_load, fault_of_log, fault_of_schedule, fault_of_watches, IsFaultOfSource};
+ghost use Rattle.s161_base.specs.Faults.{fault_of_boot, fault_of_first, fault_of_load, fault_of_log, fault_of_schedule, fault_of_watches, IsFaultOfSource};
 ghost use Rattle.s161_base.specs.declared.fault.Fault.TheVariants.{Memory};
 
 use crate::excerpt::{SourceError, excerpt_at};
 use m161_asm::{AsmError, ErrorKind};
 use m161_cause::Cause;
 use m161_elf::LoadError;
-use m161_machine::BootError;
+use m161_machine::{BootError, Refusal};
 use std::alloc::AllocError;
 use std::error::Error;
 
@@ -44,6 +44,8 @@ pub enum Fault<'a> {
     Never(&'a str),
     /// This word of `--touches` stands for no byte of RAM.
     Touches(&'a str),
+    /// The machine refused this event of the file of `--after`, from 0.
+    After(u64, Refusal),
     /// The machine's size is outside the limits.
     Conf,
     /// The image can't be loaded.
@@ -92,6 +94,16 @@ impl<'a> From<BootError> for Fault<'a> {
             BootError::Load(error) => Fault::Image(error),
             BootError::NoMemory => Fault::Memory,
         }
+    }
+}
+
+/// The fault of an event of the file of `--after`, from 0, that the machine refused.
+pub fn fault_of_first<'a>(k: u64, refusal: Refusal) -> Fault<'a>
+    ensures { result ≡ fault_of_first k refusal }
+{
+    match refusal {
+        Refusal::NoMemory => Fault::Memory,
+        other => Fault::After(k, other),
     }
 }
 

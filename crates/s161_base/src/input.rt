@@ -1,10 +1,11 @@
 //! Reading files and standard input.
 
-ghost use Rattle.std.specs.Prelude.{◌≡◌, ◌≢◌, ◌⊎◌, ◌≤◌, ℕ, List, [], ◌∷◌, None, Some, IfErr, IfOk, IfSome, length, string_bytes};
+ghost use Rattle.std.specs.Prelude.{◌≡◌, ◌≢◌, ◌⊎◌, ◌≤◌, ℕ, List, [], ◌∷◌, None, Some, IfErr, IfOk, IfSome, length, option_map, string_bytes};
 ghost use Rattle.std.specs.IoError.{error_kind};
-ghost use Rattle.s161_base.specs.Asked.{Asks};
+ghost use Rattle.s161_base.specs.Asked.{Asks, option_files};
 ghost use Rattle.s161_base.specs.Known.{IsText};
-ghost use Rattle.s161_base.specs.Reading.{IsFileUnread, IsInputUnread, IsOfBytes, IsOfText};
+ghost use Rattle.s161_base.specs.Listed.{IsTextOf};
+ghost use Rattle.s161_base.specs.Reading.{IsFileUnread, IsInputUnread, IsOfBytes, IsOfText, IsTextUnread};
 
 use crate::fault::{Fault, Unread};
 use crate::files::FileSource;
@@ -80,6 +81,7 @@ pub fn read_text<'a, F: FileSource>(
 ) -> Result<String, Fault<'a>>
     ensures whole { IfOk result (λ text. IfSome (F.known files.old name.entry.now) (λ known.
         string_bytes text ≡ known)) }
+    ensures still { (other : List ℕ) → F.known files.new other ≡ F.known files.old other }
     ensures asks { Asks (name.entry.now ∷ []) (F.asked files.old) (F.asked files.new) }
     ensures err { IfErr result (λ fault.
         IsFileUnread name.entry (IsOfText (F.known files.old name.entry.now)) fault
@@ -87,6 +89,29 @@ pub fn read_text<'a, F: FileSource>(
 {
     let bytes = read_file(alloc, files, name)?;
     text_of(bytes, Fault::File(name, Unread::NotUtf8))
+}
+
+/// The text of the file of an option, if it is given.
+///
+/// # Errors
+/// Those of `read_text`.
+#[tactic(auto, using(crate::proofs::Asking::asks_none))]
+pub fn read_text_if<'a, F: FileSource>(
+    alloc: Global,
+    files: &mut F,
+    name: Option<&'a str>,
+) -> Result<Option<String>, Fault<'a>>
+    ensures whole { IfOk result (λ text.
+        IsTextOf name.entry (F.known files.old) (option_map string_bytes text)) }
+    ensures still { (other : List ℕ) → F.known files.new other ≡ F.known files.old other }
+    ensures asks { Asks (option_files name.entry) (F.asked files.old) (F.asked files.new) }
+    ensures err { IfErr result (λ fault. IsTextUnread name.entry (F.known files.old) fault
+        ⊎ (fault ≡ Fault.Memory)) }
+{
+    match name {
+        Some(name) => Ok(Some(read_text(alloc, files, name)?)),
+        None => Ok(None),
+    }
 }
 
 /// The text of standard input.

@@ -114,6 +114,10 @@ impl fmt::Display for Head<'_> {
                 let word = Name(word);
                 write!(f, "s161: touches {word}")
             }
+            Fault::After(k, refusal) => {
+                let (number, name) = (refusal.number(), refusal.name());
+                write!(f, "s161: after {k} {number} {name}")
+            }
             Fault::Conf => write!(f, "s161: conf"),
             Fault::Image(error) => {
                 let image = ImageText(error);

@@ -1,14 +1,14 @@
 //! The events of a text, which is a schedule or a log, and the machine that they are for.
 
-ghost use Rattle.std.specs.Prelude.{◌≡◌, false, true, IfErr, IfOk, None, Some};
+ghost use Rattle.std.specs.Prelude.{◌≡◌, false, true, IfErr, IfOk, None, Some, option_map};
 ghost use Rattle.m161_machine.specs.History.{events_of};
 ghost use Rattle.m161_text.specs.Lines.{lines_of};
-ghost use Rattle.s161_base.specs.Listed.{IsListFault, Lists, ListsAs, ListsFor, ListsNone, NamesSized, first_plain, is_log};
-ghost use Rattle.s161_base.specs.Machines.{asked_conf as conf_asked, machine_fault as fault_of_machine};
+ghost use Rattle.s161_base.specs.Listed.{IsListFault, Lists, ListsAs, ListsFirst, ListsFor, ListsNoFirst, ListsNone, NamesSized, first_plain, is_log};
+ghost use Rattle.s161_base.specs.Machines.{asked_conf as conf_over, machine_fault as fault_of_machine};
 ghost use Rattle.s161_base.specs.Texts.{IsLogFault, IsScheduleFault};
 
 use crate::fault::Fault;
-use crate::machines::{NamedMachine, asked_conf, machine_fault};
+use crate::machines::{NamedMachine, asked_conf, conf_asked, machine_fault};
 use crate::texts::{events_of, log_of};
 use m161_machine::{Conf, Entry, Events};
 use m161_steplog::read_size;
@@ -121,7 +121,7 @@ fn machine_for<'a>(
     named: Option<NamedMachine>,
 ) -> Result<Conf, Fault<'a>>
     ensures ok { IfOk result (λ conf. (fault_of_machine asked file.now named ≡ None)
-        × (conf ≡ conf_asked asked named)) }
+        × (conf ≡ conf_over asked named)) }
     ensures fault { IfErr result (λ fault. fault_of_machine asked file.now named ≡ Some fault) }
 {
     match machine_fault(asked, file, named) {
@@ -150,4 +150,28 @@ pub fn plan_run<'a>(
         events: listed.events,
         conf,
     })
+}
+
+/// The events that come before those of an order, those of this text, and the machine that is asked for
+/// over them and an image's file. Without a text none come first, and the machine is as it is asked for.
+///
+/// # Errors
+/// Those of `plan_run`.
+pub fn plan_first<'a>(
+    alloc: Global,
+    asked: AskedSize,
+    file: &[u8],
+    text: Option<&str>,
+) -> Result<Planned, Fault<'a>>
+    ensures ok { IfOk result (λ run. ListsFirst asked file.now (option_map (λ t. t.now) text.entry)
+        run.events run.conf) }
+    ensures fault { IfErr result (ListsNoFirst asked file.now (option_map (λ t. t.now) text.entry)) }
+{
+    match text {
+        Some(text) => plan_run(alloc, asked, file, text),
+        None => Ok(Planned {
+            events: Events::new(alloc),
+            conf: conf_asked(asked),
+        }),
+    }
 }

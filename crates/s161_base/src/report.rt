@@ -82,6 +82,11 @@ fn put_head<'a, E: Write>(fault: Fault<'_>, errors: &mut E) -> Result<(), Fault<
             put("s161: touches ", errors)?;
             put_name(word, errors)
         }
+        Fault::After(k, refusal) => {
+            put_numbered("s161: after ", k, errors)?;
+            put(" ", errors)?;
+            put_error(refusal.number(), refusal.name(), errors)
+        }
         Fault::Conf => put("s161: conf", errors),
         Fault::Image(error) => {
             put("s161: image ", errors)?;

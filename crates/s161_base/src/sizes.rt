@@ -21,21 +21,21 @@ pub fn conf_of(size: Size) -> Conf
     }
 }
 
-/// The machine line of a schedule of the events of a machine of this size, with its end.
+/// The machine line of a schedule of the events of this machine, with its end.
 ///
 /// # Errors
 /// Memory was refused.
-pub fn line_of_size(alloc: Global, size: Size) -> Result<String, AllocError>
-    ensures { IfOk result (λ line. string_bytes line ≡ size_line_text size) }
+pub fn line_of_machine(alloc: Global, conf: Conf) -> Result<String, AllocError>
+    ensures { IfOk result (λ line. string_bytes line ≡ size_line_text conf) }
 {
     size_line(
         alloc,
         MachineSize {
-            ram: size.ram,
-            processors: size.processors,
+            ram: conf.ram,
+            processors: conf.processors,
             mode: Mode {
-                link: size.link,
-                strict: size.strict,
+                link: conf.link,
+                strict: conf.strict,
             },
         },
     )

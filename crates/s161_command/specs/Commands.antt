@@ -130,7 +130,7 @@ console_line =
 abbrev pub plain_search_line : App
 plain_search_line =
     with_rule (with_rule (with_rule (with_rule (with_rule (with_rule (with_rule (with_rule (with_rule (with_rule
-    (with_size_rules (codes "65536") (on_image (codes "search")))
+    (with_named_size_rules (codes "65536") (on_image (codes "search")))
     (optional_rule (codes "seeds") 1 4_294_967_295))
     (optional_rule (codes "delays") 0 64))
     (optional_rule (codes "turns") 1 4_294_967_295))
@@ -165,7 +165,7 @@ explore_line =
 abbrev pub schedule_line : App
 schedule_line =
     with_pace_rules 16_777_216 (with_order_rules
-    (with_size_rules (codes "65536") (on_image (codes "schedule"))))
+    (with_named_size_rules (codes "65536") (on_image (codes "schedule"))))
 
 -- the arguments of `trace`, without those of a driven run: an image and options
 abbrev pub plain_trace_line : App
@@ -335,7 +335,7 @@ IsRunTask rows _ = ⊥
 pub record AsksSchedule (rows : List Row) (task : ScheduleTask) : Type 0 where
   pub order : has_order rows ≡ true
   pub image : task.image.now ≡ given_of (codes "image") rows
-  pub size : IsSize 65_536 rows task.size
+  pub size : IsNamedSize 65_536 rows task.size
   pub drive : AsksDrive Needed rows task.drive
 
 -- `console` asks for this driven run
@@ -347,7 +347,7 @@ pub record AsksConsole (rows : List Row) (task : ConsoleTask) : Type 0 where
 -- `search` asks for these driven runs
 pub record AsksSearch (rows : List Row) (task : SearchTask) : Type 0 where
   pub image : task.image.now ≡ given_of (codes "image") rows
-  pub size : IsSize 65_536 rows task.size
+  pub size : IsNamedSize 65_536 rows task.size
   pub drive : AsksDrive Seeded rows task.drive
   pub delays : IsClassIf rows task.delays
   pub seeds : IsSeeds task.delays rows task.seeds

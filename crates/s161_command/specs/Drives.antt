@@ -57,17 +57,18 @@ with_order_rules command =
     (text_rule (codes "delayed")))
     (long_rule (codes "random") 0 18_446_744_073_709_551_615))
 
--- a command, with the options added that say how long a driven run is, when bytes are sent, and
--- which keys are typed, and when
+-- a command, with the options added that say how long a driven run is, when bytes are sent, which keys
+-- are typed, and when, and which events come first
 abbrev pub with_pace_rules : ℕ → App → App
 with_pace_rules most command =
-    with_rule (with_rule (with_rule (with_rule command
+    with_rule (with_rule (with_rule (with_rule (with_rule command
     (long_rule (codes "events") 1 most))
     (optional_rule (codes "transfer") 0 4_294_967_295))
     (text_rule (codes "keys")))
-    (text_rule (codes "gap"))
+    (text_rule (codes "gap")))
+    (text_rule (codes "after"))
 
--- the same without a file of keys
+-- the same without files
 abbrev pub with_console_pace_rules : ℕ → App → App
 with_console_pace_rules most command =
     with_rule (with_rule (with_rule command
@@ -83,6 +84,7 @@ abbrev pub has_pace : List Row → Bool
 has_pace rows =
     is_given (codes "events") rows || is_given (codes "transfer") rows
     || is_given (codes "keys") rows || is_given (codes "gap") rows
+    || is_given (codes "after") rows
 
 abbrev pub two_orders : List Row → Bool
 two_orders rows = is_given (codes "turns") rows && is_given (codes "random") rows
@@ -268,6 +270,7 @@ pub record AsksDrive (orders : OrderUse) (rows : List Row) (drive : Drive) : Typ
   pub transfer : IsNumberOf 100 (one_of (codes "transfer") rows) drive.transfer
   pub gap : IsGap (gap_by_default orders) (first_of (codes "gap") rows) drive.gap
   pub keys : option_map (λ name. name.now) drive.keys ≡ first_of (codes "keys") rows
+  pub after : option_map (λ name. name.now) drive.after ≡ first_of (codes "after") rows
 
 -- a driven run if an order is given
 pub record AsksDriveIf (orders : OrderUse) (rows : List Row) (found : Option Drive) : Type 0 where

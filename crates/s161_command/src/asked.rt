@@ -135,7 +135,7 @@ fn task_of_schedule<'a>(given: &ArgMatches<'a>, settings: Settings) -> Task<'a>
 {
     Task::Schedule(ScheduleTask {
         image: file_given(given, "image"),
-        size: size_given(given, 65_536, settings.link),
+        size: named_size_given(given, 65_536, settings.link),
         drive: drive_given(given, OrderUse::Needed, settings),
     })
 }
@@ -161,7 +161,7 @@ fn task_of_search<'a>(given: &ArgMatches<'a>, settings: Settings) -> Task<'a>
 {
     Task::Search(SearchTask {
         image: file_given(given, "image"),
-        size: size_given(given, 65_536, settings.link),
+        size: named_size_given(given, 65_536, settings.link),
         drive: drive_given(given, OrderUse::Seeded, settings),
         delays: settings.delays,
         seeds: seeds_given(given, settings.delays),

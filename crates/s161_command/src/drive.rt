@@ -29,6 +29,9 @@ pub struct Drive<'a> {
     pub gap: Option<u32>,
     /// The name of the file whose bytes are typed, if there is one.
     pub keys: Option<&'a str>,
+    /// The name of the schedule's or the log's file whose events come before those of the order, if
+    /// there is one.
+    pub after: Option<&'a str>,
 }
 
 /// How a command takes an order.
@@ -66,7 +69,7 @@ pub enum Clash {
     DelayedWithoutTurns,
     #[error("an order is wanted: --turns N or --random SEED")]
     NoOrder,
-    #[error("--events, --transfer, --keys and --gap need an order: --turns N or --random SEED")]
+    #[error("--events, --transfer, --keys, --gap and --after need an order: --turns N or --random SEED")]
     PaceWithoutOrder,
     #[error("--threads and --burst leave the order to the host: --turns and --random are for runs without threads")]
     OrderInThreads,
@@ -109,6 +112,7 @@ fn has_pace<'a>(given: &ArgMatches<'a>) -> bool
         || is_given(given, "transfer")
         || is_given(given, "keys")
         || is_given(given, "gap")
+        || is_given(given, "after")
 }
 
 fn two_orders<'a>(given: &ArgMatches<'a>) -> bool
@@ -424,5 +428,6 @@ pub(crate) fn drive_given<'a>(
         transfer: number_given(given, "transfer", 100),
         gap: settings.gap,
         keys: text_given(given, "keys"),
+        after: text_given(given, "after"),
     }
 }

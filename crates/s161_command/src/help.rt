@@ -45,6 +45,10 @@ highest priority; the priorities are drawn at the start, and D of them fall in
 each stretch of K Steps. A byte is sent once --transfer events were accepted
 after it was written; a key of --keys is typed once --gap events were accepted
 after the last one; both also where no processor is ready.
+With --after FILE the events of a schedule or a log come first, and the order
+chooses those behind them, as if the run began there: --events, turns, stretches
+and choices count from there. FILE may name the machine as a schedule may. The
+order chooses none where an event of FILE is refused or switches the machine off.
 
 The log keeps the last N entries (--log). --show-log prints it before the last
 line, --only-log prints it alone, and --only-output the console's bytes alone;
@@ -118,7 +122,9 @@ choices from --from on, and below --within. The first run that goes wrong ends t
 Its schedule is printed, shortened unless --whole is given, behind three comments: its machine line,
 its seed or its delays, and what is wrong. `clean N` says that no run goes wrong; `clean N cut M` that M of them
 weren't over after --events events. With --jobs N so many threads make the runs, as far as the
-host has them; what is printed is the same. A file has at most 402653184 bytes.
+host has them; what is printed is the same. With --after FILE each run goes on behind the events of
+a schedule or a log, which may name the machine, as for run: the verdict is that of all its events, and
+those of FILE aren't shortened. A file has at most 402653184 bytes.
 
 Exit status:
   0  no run goes wrong
@@ -132,8 +138,9 @@ Example:
 /// The end of the help of `schedule`.
 pub(crate) const AFTER_SCHEDULE_HELP: &str = "\
 An order is needed, --turns or --random, as for run. What is printed is a machine line, and a schedule
-of the events that were made, at most 16777216: run over it prints what the same run by its order prints, but for
-the last line where that says why no more events were chosen. A file has at most 402653184 bytes.
+of the events that were made, at most 16777216: run over it prints what the same run by its order
+prints, but for the last line where that says why no more events were chosen. With --after FILE the
+events of a schedule or a log come first, as for run. A file has at most 402653184 bytes.
 
 Exit status:
   0  the events were made
@@ -189,7 +196,7 @@ stay. WORD is the address of a byte of RAM in hexadecimal, physical or in kseg0 
 the image's symbols, or NAME+DIGITS: a Step has a line if it loads or stores the word with this byte.
 With --shared it has one if it loads or stores a word that Steps of two processors load or store, at
 least one of them storing, among the events K to K + N - 1; the run is made twice then.
-The image, a schedule and keys have at most 402653184 bytes each.
+The image, a schedule, keys and the file of --after have at most 402653184 bytes each.
 
 Exit status:
   0  the machine switched itself off
@@ -227,7 +234,8 @@ pub(crate) const AFTER_DEBUG_HELP: &str = "\
 The events are those of FILE, a schedule or a log (run --only-log), or those that an order chooses:
 give one of the two. A log says the machine's size, what ll links to and whether it is strict, as for
 replay, and the machine line of a schedule says it as for run; without one it is 1048576 bytes, 1
-processor, a word and not strict where nothing is given.
+processor, a word and not strict where nothing is given. --after FILE gives an order the events that
+come first, as for run.
 The commands are read from standard input, one a line, and each is answered before the next one is
 read:
   b P ADDR  d P ADDR   sets or deletes a breakpoint of processor P
@@ -248,7 +256,8 @@ read:
   help  quit
 ADDR has one to eight hexadecimal digits, behind 0x or not; with --symbols it may be a name too, or
 NAME+N, N being written so. Spaces and tabs count as one space between words, and as none around them.
-An error of a command is printed as `? Name`, and the next one is done.
+An error of a command is printed as `? Name`, and the next one is done; standard error says then
+what the command takes.
 The image, FILE and keys have at most 402653184 bytes each, and so has a line of the input.
 
 Exit status:

@@ -11,7 +11,7 @@ use crate::help::{
     AFTER_SEARCH_HELP, AFTER_TRACE_HELP,
 };
 use crate::options::{
-    ASKED_CPUS, ASKED_LINK, ASKED_RAM, ASKED_STRICT, BURST, CHANGES, COUNT, CPUS, DEBUG_LOG,
+    AFTER, ASKED_CPUS, ASKED_LINK, ASKED_RAM, ASKED_STRICT, BURST, CHANGES, COUNT, CPUS, DEBUG_LOG,
     DELAYED, DELAYED_TURNS, DELAYS, ENTRIES, EVENTS, EXPLORED_KEYS, FILE, FIRST_EVENT, FIRST_RUN,
     GAP, HUNG, IMAGE, JOBS, KEYS, LABELS, LINK, LISTED_EVENTS, LOADS, LOG, NAMES, NEVER, ONLY,
     ONLY_LOG, ONLY_OUTPUT, OUTCOMES, OUTPUT, RAM, RANDOM, SEARCH_WITHIN, SEEDS, SHARED, SHOW_LOG,
@@ -96,6 +96,7 @@ static RUN: Line = Line {
         TRANSFER,
         KEYS,
         GAP,
+        AFTER,
     ],
 };
 
@@ -113,11 +114,11 @@ static SCHEDULE: Line = Line {
     about: "Prints the events that an order chooses, as a schedule",
     arguments: &[
         IMAGE,
-        RAM,
-        CPUS,
+        ASKED_RAM,
+        ASKED_CPUS,
         LOG,
-        LINK,
-        STRICT,
+        ASKED_LINK,
+        ASKED_STRICT,
         TURNS,
         DELAYED,
         RANDOM,
@@ -127,6 +128,7 @@ static SCHEDULE: Line = Line {
         TRANSFER,
         KEYS,
         GAP,
+        AFTER,
     ],
 };
 
@@ -135,11 +137,11 @@ static SEARCH: Line = Line {
     about: "Looks for a seed whose run goes wrong, and prints a short schedule of it",
     arguments: &[
         IMAGE,
-        RAM,
-        CPUS,
+        ASKED_RAM,
+        ASKED_CPUS,
         LOG,
-        LINK,
-        STRICT,
+        ASKED_LINK,
+        ASKED_STRICT,
         SEEDS,
         DELAYS,
         DELAYED_TURNS,
@@ -156,6 +158,7 @@ static SEARCH: Line = Line {
         TRANSFER,
         KEYS,
         GAP,
+        AFTER,
     ],
 };
 
@@ -204,6 +207,7 @@ static TRACE: Line = Line {
         TRANSFER,
         KEYS,
         GAP,
+        AFTER,
     ],
 };
 
@@ -235,6 +239,7 @@ static DEBUG: Line = Line {
         TRANSFER,
         KEYS,
         GAP,
+        AFTER,
     ],
 };
 
@@ -258,6 +263,7 @@ static GDB: Line = Line {
         TRANSFER,
         KEYS,
         GAP,
+        AFTER,
     ],
 };
 

@@ -297,6 +297,16 @@ pub(crate) const GAP: Argument = Argument {
     required: false,
 };
 
+/// Which events come before those of an order.
+pub(crate) const AFTER: Argument = Argument {
+    name: "after",
+    kind: Kind::Text,
+    shown: "FILE",
+    help: "The events of this schedule or log come first, and those of the order behind them",
+    default: None,
+    required: false,
+};
+
 /// How many seeds `search` tries.
 pub(crate) const SEEDS: Argument = Argument {
     name: "seeds",

@@ -107,7 +107,7 @@ pub struct ScheduleTask<'a> {
     /// The image's name.
     pub image: &'a str,
     /// The machine's size.
-    pub size: Size,
+    pub size: AskedSize,
     /// What the driven run is asked for.
     pub drive: Drive<'a>,
 }
@@ -129,7 +129,7 @@ pub struct SearchTask<'a> {
     /// The image's name.
     pub image: &'a str,
     /// The machine's size.
-    pub size: Size,
+    pub size: AskedSize,
     /// What each driven run is asked for; the order's seed is that of the first one. With `delays`
     /// its order is that of turns without a delay.
     pub drive: Drive<'a>,

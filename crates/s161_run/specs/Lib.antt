@@ -2,6 +2,7 @@ pub mod Demos
 pub mod Replays
 pub mod Runs
 pub mod Driven
+pub mod Behind
 pub mod Schedules
 pub mod Threads
 pub mod Consoles

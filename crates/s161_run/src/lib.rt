@@ -4,6 +4,7 @@
 //! sends goes to standard output.
 #![tactic(auto)]
 
+pub mod behind;
 pub mod console;
 pub mod demo;
 pub mod driven;

@@ -9,7 +9,7 @@ returns-clause-task c = (
   record {
     order = ordered (rows_of (found_of c.args.given.now)) c.requires.together;
     image = c.file_given.ensures;
-    size = c.size_given.ensures;
+    size = c.named_size_given.ensures;
     drive = c.drive_given.ensures;
   },
 )

@@ -13,4 +13,5 @@ returns c = record {
   transfer = c.number_given.ensures;
   gap = c.requires.gap;
   keys = c.text_given.ensures;
+  after = c.text_given-2.ensures;
 }
