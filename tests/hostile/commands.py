@@ -267,6 +267,9 @@ def small(make):
 
     chosen = make.said(["schedule", "turns.elf", *two, *at_random]).decode()
     make.write("chosen.schedule", chosen)
+    make.write("first.schedule", "# machine 65536 2\ns 0 3\n")
+    behind = [*at_random, "--after", "first.schedule"]
+    chosen_behind = make.said(["schedule", "turns.elf", *behind]).decode()
     sample = make.said(["run", "@sample", "--cpus", "2", "--only-log"], shootdown).decode()
     return [
         Command(["demo"]),
@@ -288,6 +291,8 @@ def small(make):
         Command(["run", "turns.elf", *two, *at_random, "--show-log"], "driven"),
         Command(["run", "turns.elf", *two, *priorities, "--only-log"], "driven"),
         Command(["run", "shell.elf", *two, *typed], "driven"),
+        Command(["run", "turns.elf", *behind, "--show-log"], "driven"),
+        Command(["run", "hello.elf", "--turns", "1", "--after", "hello.log"], "driven"),
         Command(["run", "sharing.elf", *two, "--turns", "1", "--events", "300", "--link", "line",
                  "--only-log"], "driven", ends=3),
         Command(["run", "conflict.elf", *one, "--turns", "1", "--strict", "--show-log"], "driven", ends=4),
@@ -300,6 +305,7 @@ def small(make):
         Command(["schedule", "turns.elf", *two, "--turns", "3"]),
         Command(["schedule", "turns.elf", *two, *priorities]),
         Command(["schedule", "shell.elf", *two, *typed]),
+        Command(["schedule", "turns.elf", *behind]),
         Command(["replay", "hello.elf", "hello.log"]),
         Command(["replay", "@sample", "sample.log", "--cpus", "2", "--log", "5"]),
         Command(["audit", "@sample", "page.watches", *two], text=shootdown),
@@ -315,6 +321,8 @@ def small(make):
         Command(["search", "off.elf", *one, "--seeds", "1", "--output", "keys"], ends=4),
         Command(["search", "shell.elf", *two, "--seeds", "1", "--keys", keys, "--events", "500"]),
         Command(["search", "turns.elf", *two, "--seeds", "5", "--jobs", "3"]),
+        Command(["search", "turns.elf", "--seeds", "2", "--after", "first.schedule"]),
+        Command(["search", "turns.elf", "--delays", "1", "--within", "5", "--after", "first.schedule"]),
         Command(["search", "turns.elf", *two, "--delays", "1", "--within", "6"]),
         Command(["search", "turns.elf", *two, "--delays", "2", "--within", "5", "--jobs", "3"]),
         Command(["search", "panic.elf", *two, "--delays", "1", "--never", "panic", "--jobs", "2"], ends=4),
@@ -330,13 +338,16 @@ def small(make):
         debug(["@sample", "sample.log"], ["--cpus", "2"], events_of(sample)),
         debug(["turns.elf", *two, *at_random], two, events_of(chosen)),
         debug(["turns.elf", "chosen.schedule"], two, events_of(chosen)),
+        debug(["turns.elf", *behind], two, events_of(chosen_behind)),
         debug(["named.elf", *two, *at_random, "--symbols"], two, events_of(chosen), NAMED_SESSION),
         gdb("hello.elf", "hello.schedule", *one),
         gdb("turns.elf", *two, *at_random),
+        gdb("turns.elf", *behind),
         Command(["trace", "hello.elf", *one], "traced", hello),
         Command(["trace", "hello.elf"], "traced", small_hello, of="a machine line"),
         Command(["trace", "hello.elf"], "traced", hello_log, of="a log"),
         Command(["trace", "turns.elf", *two, *at_random, "--names"], "traced"),
+        Command(["trace", "turns.elf", *behind], "traced"),
         Command(["trace", "named.elf", *two, *at_random, "--symbols"], "traced"),
         Command(["trace", "shell.elf", *two, *typed, "--from", "900", "--count", "20"], "traced"),
         *words_and_faults(make),
