@@ -9,7 +9,7 @@ terminal = Terminal([program, "debug", "@sample", schedule, "--cpus", "2"], by_l
 for command, answer in [
     (b"g 2\n", b"end 2\n"),
     (b"u m 3000\n", b"until 0\n"),
-    (b"zz\n", b"? Unknown\n"),
+    (b"zz\n", b"? Unknown\ns161: note command (there is none of this name; help lists them)\n"),
     (b"j 0\n", b"at 0\n"),
     (b"s 0\n", b"s 0 ran\n"),
 ]:

@@ -113,9 +113,14 @@ def judge_file(command, answer):
     return "file"
 
 
+def told_behind_notes(answer):
+    """What standard error has, without the notes of a debugger's session."""
+    return b"".join(line for line in answer.errors.splitlines(True) if not line.startswith(b"s161: note "))
+
+
 def judge_input(command, answer, usual):
     """The fault of standard input; what was written before it stays, of a debugger by whole answers."""
-    if answer.status != 1 or answer.errors != UNREAD:
+    if answer.status != 1 or told_behind_notes(answer) != UNREAD:
         raise Wrong("not the fault of standard input")
     if command.kind == "traced" and answer.output:
         raise Wrong("an output before the input was read")
@@ -126,7 +131,7 @@ def judge_input(command, answer, usual):
 
 def judge_output(command, answer, usual, room):
     """The fault of standard output, which had room for so many bytes, or failed at some write."""
-    if answer.status != 1 or answer.errors != OUTPUT:
+    if answer.status != 1 or told_behind_notes(answer) != OUTPUT:
         raise Wrong("not the fault of standard output")
     if not is_beginning(command, answer.output, usual):
         raise Wrong("the output isn't the beginning of the usual one")
@@ -185,7 +190,9 @@ def judge_alone(wanted, command, answer, usual, same):
                 raise Wrong("not the fault of standard output")
             return "output"
     elif usual.errors:
-        if answer.status != 1 or answer.errors or not same_output(command, answer, usual):
+        # (a debugger's session ends at the first note)
+        begun = command.kind == "debug" and usual.output.startswith(answer.output)
+        if answer.status != 1 or answer.errors or not (begun or same_output(command, answer, usual)):
             raise Wrong("not the exit status of a failing error output, or another output")
         return "errors"
     if not same:

@@ -5,6 +5,8 @@ import signal
 import commands
 import running
 
+# What standard error gets for the commands of a session that have other arguments than theirs.
+NOTES = {"j": b"s161: note j (the number of an event, at most how many there are with those that are left)\n"}
 MEMORY = b"s161: memory\n"
 THREADS = {
     b"s161: threads NoMemory (memory was refused)\n": "threads NoMemory",
@@ -200,6 +202,7 @@ class Session:
         self.left = list(command.events)
         self.breakpoints = []
         self.refused = []
+        self.noted = b""  # what standard error has of the lines so far
 
     def usual(self, lines):
         """What these lines print from here on, each for itself: in a new session over the same
@@ -236,6 +239,8 @@ class Session:
             if output.startswith(usual, at):
                 at += len(usual)
                 self.does(line, usual.decode())
+                if usual == b"? BadArgument\n":
+                    self.noted += NOTES[line.split()[0]]
             elif output.startswith(b"? NoMemory\n", at):
                 at += len(b"? NoMemory\n")
                 self.refused.append("? NoMemory")
@@ -256,14 +261,14 @@ class Session:
             raise Wrong(f"more was written: {output[at : at + 60]!r}")
         if self.is_fault():
             return self.told(self.unread(len(lines)))
-        if self.answer.status != 0 or self.answer.errors:
-            raise Wrong("another exit status, or an error")
+        if self.answer.status != 0 or self.answer.errors != self.noted:
+            raise Wrong("another exit status, or another error")
         if not self.refused:
             raise Wrong("another answer, though nothing says that memory was refused")
         return self.told(None)
 
     def is_fault(self):
-        return self.answer.status == 1 and self.answer.errors == MEMORY
+        return self.answer.status == 1 and self.answer.errors == self.noted + MEMORY
 
     def unread(self, answered):
         """That memory was refused before a line was read to its end, after this many lines that have
