@@ -1,4 +1,5 @@
 pub mod Asking
+pub mod Following
 mod Failing
 pub mod Making
 mod Shown
