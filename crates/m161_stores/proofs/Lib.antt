@@ -1,0 +1,3 @@
+mod Sighting
+mod Counting
+mod Telling

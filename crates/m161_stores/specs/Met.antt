@@ -1,4 +1,4 @@
-use Rattle.std.proofs.Common.{◌≡◌, ℕ, Option, None, Some}
+use Rattle.std.proofs.Common.{◌≡◌, ℕ, None, Some}
 use Rattle.m161_alike.proofs.Behaving.{alike_law}
 use Rattle.m161_alike.proofs.Telling.{view_law}
 use Rattle.m161_states.specs.Question.{Question}
