@@ -6,5 +6,6 @@ pub use Rattle.m161_states.specs.System
 pub use Rattle.m161_reach.specs.Reach
 pub mod Stores
 pub mod Runs
+pub mod Watches
 pub mod Met
 pub mod helpers

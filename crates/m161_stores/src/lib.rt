@@ -15,7 +15,9 @@
 mod find;
 mod run;
 mod storing;
+mod watches;
 
 pub use find::is_unstored;
 pub use m161_machine::Event;
 pub use run::stores_to;
+pub use watches::{Unstored, unstored_watches};
