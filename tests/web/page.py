@@ -278,6 +278,31 @@ class Page:
                 assert self.data("states") == "527", said
         assert right >= 6, right
 
+    def delays(self):
+        """Where there are too many states, every run with few delays is made, before the seeds: `s161 search --delays 2` finds the same."""
+        slow = "sw      $12, 4096($11)\n        ori $14, $0, 700\ndown: addiu $14, $14, -1\n bne $14, $0, down\n nop\n"
+        self.choose("lost-update")
+        self.write(self.b.js("$('source').value").replace("sw      $12, 4096($11)\n", slow))
+        self.b.type("#limit", "5000")
+        said = self.find()
+        assert "Turns with one delay, at choice 11: stuck after 4,241 events. No run with fewer delays is so." in said, said
+        assert (self.data("found"), self.data("delays"), self.data("stop"), self.data("events")) == ("stuck", "11", "stuck", "4241")
+        assert self.b.js("$('order').value") == "schedule"
+        self.choose("lost-update-fixed")
+        source = self.b.js("$('source').value")
+        at = source.index("\n", source.index("sc      $")) + 1
+        rest = source[at:].split("\n")
+        loop = next(i for i, line in enumerate(rest) if line.strip() == "nop") + 1
+        self.write(source[:at] + "\n".join(rest[:loop]) + "\n" + slow.split("\n", 1)[1] + "\n".join(rest[loop:]))
+        self.b.type("#limit", "5000")
+        self.b.click("#hunt")
+        self.b.wait("!hunting || /seeds tried/.test($('hunted').textContent)", 60)
+        if self.b.js("hunting"):
+            self.b.click("#hunt")
+            self.b.wait("!hunting")
+        said = self.text("hunted")
+        assert "There are more than" in said and "runs by turns with at most two delays at the first" in said and "none went wrong" in said, said
+
     def as_found(self):
         """The run of the seed itself is there, too."""
         self.choose("two-locks")
@@ -608,7 +633,7 @@ class Page:
         assert not thrown, thrown[:1]
 
 
-USES = ["opens", "document", "contrast", "keys", "buttons", "machines_own", "by_hand", "faults", "spins", "orders", "labs", "as_found", "rules", "busy", "watch", "typed", "kernel_in_c", "link_and_file",
+USES = ["opens", "document", "contrast", "keys", "buttons", "machines_own", "by_hand", "faults", "spins", "orders", "labs", "delays", "as_found", "rules", "busy", "watch", "typed", "kernel_in_c", "link_and_file",
         "exports", "small_trace", "many_lines", "trap", "refused_memory", "without_machine", "narrow", "projector", "by_keyboard", "quiet"]
 
 
