@@ -110,6 +110,7 @@ fn explore_by<'a, F: FileSource>(
 }
 
 // Explores what was read.
+#[tactic(auto, using(crate::proofs::Failing::bare_is_never))]
 fn explore_in<'a>(
     alloc: Global,
     search: SearchTask<'a>,
@@ -128,6 +129,7 @@ fn explore_in<'a>(
 }
 
 // Explores from the state at boot.
+#[tactic(auto, using(crate::proofs::Failing::bare_is_run))]
 fn explore_from<'a>(
     alloc: Global,
     booted: &Booted<Tlb, Console>,

@@ -4,8 +4,7 @@ ghost use Rattle.std.specs.Prelude.{◌≡◌, ◌++◌, ◌∷◌, [], ℕ, IfE
 ghost use Rattle.m161_audit.specs.Watch.{AreGood};
 ghost use Rattle.m161_debug.specs.Commands.{IsPlace};
 ghost use Rattle.s161_search.specs.Never.{AreAddresses};
-ghost use Rattle.s161_search.specs.Runs.{IsRunFault};
-ghost use Rattle.s161_search.specs.helpers.Begun.{BeginsAt};
+ghost use Rattle.s161_search.specs.helpers.Begun.{BeginsAt, IsBareFault};
 ghost use Rattle.s161_search.specs.helpers.Inputs.{given_of};
 ghost use Rattle.s161_search.specs.helpers.Never.{HasNever, IsNeverFault, IsNoAddress, IsWordFault};
 
@@ -31,7 +30,7 @@ pub(crate) fn check_watches<'a>(
 ) -> Result<(), Fault<'a>>
     requires { BeginsAt (given_of inputs.now) booted.now }
     ensures good { IfOk result (λ _. (k : ℕ) → AreGood (given_of inputs.now).conf.ram (given_of inputs.now).watches k) }
-    ensures fault { IfErr result (IsRunFault (given_of inputs.now)) }
+    ensures fault { IfErr result (IsBareFault (given_of inputs.now)) }
 {
     match judge_events(alloc, booted, &[], &inputs.goal()) {
         Ok(_) => Ok(()),
@@ -80,6 +79,7 @@ fn addresses_of<'a>(
 ///
 /// # Errors
 /// A watch is bad; or the first word that stands for no address; or memory was refused.
+#[tactic(auto, using(crate::proofs::Failing::bare_is_never))]
 pub(crate) fn with_never<'a>(
     alloc: Global,
     booted: &Booted<Tlb, Console>,

@@ -69,6 +69,7 @@ pub fn search<'a, R: Threads + Sync, F: FileSource>(
 }
 
 // Makes the runs of what was read.
+#[tactic(auto, using(crate::proofs::Failing::bare_is_never))]
 fn search_in<'a, R: Threads + Sync>(
     rt: &R,
     alloc: Global,

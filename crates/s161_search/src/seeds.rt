@@ -1,10 +1,9 @@
 //! The runs of a search.
 
 ghost use Rattle.std.specs.Prelude.{◌≡◌, IfErr, IfOk};
-ghost use Rattle.s161_search.specs.helpers.Begun.{BeginsAt};
+ghost use Rattle.s161_search.specs.helpers.Begun.{BeginsAt, IsBareFault};
 ghost use Rattle.s161_search.specs.helpers.Delayed.{BeginsBehind, IsNoMemory};
 ghost use Rattle.s161_search.specs.helpers.Inputs.{given_of};
-ghost use Rattle.s161_search.specs.Runs.{IsRunFault};
 ghost use Rattle.s161_search.specs.Seeds.{seed_at, seed_of, with_seed};
 ghost use Rattle.s161_search.specs.helpers.Tried.{IsTried};
 
@@ -72,7 +71,7 @@ fn order_at(order: Order, k: u32) -> Order
 /// The image can't be booted.
 pub(crate) fn boot<'a>(alloc: Global, inputs: &Inputs) -> Result<Booted<Tlb, Console>, Fault<'a>>
     ensures ok { IfOk result (BeginsAt (given_of inputs.now)) }
-    ensures fault { IfErr result (IsRunFault (given_of inputs.now)) }
+    ensures fault { IfErr result (IsBareFault (given_of inputs.now)) }
 {
     match Booted::new(alloc, &inputs.file, inputs.first.conf) {
         Ok(booted) => Ok(booted),

@@ -10,7 +10,7 @@ ghost use Rattle.s161_base.specs.declared.fault.Fault.TheVariants as faults;
 ghost use Rattle.s161_run.specs.Behind.{RefusesFirst};
 ghost use Rattle.s161_search.specs.Given.{AreAllKeys, criteria_of};
 ghost use Rattle.s161_search.specs.Runs.{IsRunFault};
-ghost use Rattle.s161_search.specs.helpers.Begun.{BeginsAt, IsStarted, MakesFirst};
+ghost use Rattle.s161_search.specs.helpers.Begun.{BeginsAt, IsBareFault, IsStarted, MakesFirst};
 ghost use Rattle.s161_search.specs.helpers.Inputs.{given_of};
 
 use crate::audit::fault_of_audit;
@@ -44,7 +44,7 @@ fn start_steps<'a>(
 ) -> Result<StepMemory<Tlb, Console>, Fault<'a>>
     requires { BeginsAt (given_of inputs.now) booted.now }
     ensures ok { IfOk result (IsKeptOf (criteria_of (given_of inputs.now)) booted.now []) }
-    ensures err { IfErr result (IsRunFault (given_of inputs.now)) }
+    ensures err { IfErr result (IsBareFault (given_of inputs.now)) }
 {
     match StepMemory::new(alloc, booted, &inputs.goal()) {
         Ok(steps) => Ok(steps),

@@ -12,7 +12,10 @@ use Rattle.s161_run.specs.declared.events.RunStop.{RunStop}
 use Rattle.s161_run.specs.Behind.{WasAccepted}
 use Rattle.s161_run.specs.Runs.{MakesEvents}
 use Rattle.s161_search.specs.declared.start.Start.{Start}
+use Rattle.s161_base.specs.declared.fault.Fault.{Fault}
+use Rattle.s161_base.specs.declared.fault.Fault.TheVariants.{Conf, Image, Memory, Watch}
 use Rattle.s161_search.specs.Given.{AreAllKeys, Given, criteria_of}
+use Rattle.s161_search.specs.Runs.{IsRunFault}
 use Rattle.s161_search.specs.Searches.{HasKind, IsJudgedAt}
 
 -- The state at boot, from which all runs of a search begin.
@@ -20,6 +23,14 @@ use Rattle.s161_search.specs.Searches.{HasKind, IsJudgedAt}
 -- this is that state
 abbrev pub BeginsAt : Given → State → Type 0
 BeginsAt given s = BootsState given.file given.conf (boot_fault given.file given.conf) (Ok s)
+
+-- why a run isn't made, but for an event that comes first
+abbrev pub IsBareFault : Given → Fault → Type 0
+IsBareFault given Conf = IsRunFault given Conf
+IsBareFault given (Image e) = IsRunFault given (Image e)
+IsBareFault given (Watch k) = IsRunFault given (Watch k)
+IsBareFault given Memory = Unit {0}
+IsBareFault given _ = ⊥
 
 -- the verdict of a list of events, if that is this state
 abbrev pub IsJudgedFrom : State → Given → List Event → Option Judged → Type 0

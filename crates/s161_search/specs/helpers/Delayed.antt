@@ -12,7 +12,6 @@ use Rattle.s161_base.specs.declared.fault.Fault.TheVariants.{Memory}
 use Rattle.s161_command.specs.declared.task.SearchTask.{SearchTask}
 use Rattle.s161_search.specs.declared.orders.WrongRun.{WrongRun}
 use Rattle.s161_search.specs.declared.start.Start.{Start}
-use Rattle.s161_search.specs.Delays.{HasRightRun}
 use Rattle.s161_search.specs.Given.{Given}
 use Rattle.s161_search.specs.Runs.{IsRunOf}
 use Rattle.s161_search.specs.Seeds.{IsRightAt, IsRunAt}
@@ -31,12 +30,24 @@ IsStartOf given start = (s : State) × BeginsAt given s × IsStarted given s sta
 abbrev pub BeginsBehind : Given → Start → Question → Type 0
 BeginsBehind given start q = (s : State) × Begins given s q × IsStarted given s start
 
+-- a run, whose order begins at the start
 abbrev pub IsRunFrom : Start → SearchTask → Given → Order → JudgedRun → Type 0
-IsRunFrom start task given order run = IsStartOf given start → IsRunOf task given order run
+IsRunFrom start task given order run =
+    IsStartOf given start
+    → (is : IsRunOf task given order run) × (is.goes.between ≡ start.core.value.state)
+
+-- the run of a list has no verdict, and its order begins at this state
+abbrev pub HasRightRunAt : State → SearchTask → Given → ℕ → List ℕ → Bool → Type 0
+HasRightRunAt u task given steps numbers is_cut =
+    (delays : Delays) × (run : JudgedRun) × (delays_of delays ≡ numbers)
+    × (is : IsRunOf task given (Delayed steps delays) run)
+    × IsRunTold run.is_cut task given run.events.items None × (run.is_cut ≡ is_cut)
+    × (is.goes.between ≡ u)
 
 abbrev pub IsRightFrom : Start → Question → SearchTask → Given → ℕ → List ℕ → Bool → Type 0
 IsRightFrom start q task given steps numbers is_cut =
-    BeginsBehind given start q → HasRightRun task given steps numbers is_cut
+    BeginsBehind given start q
+    → HasRightRunAt start.core.value.state task given steps numbers is_cut
 
 abbrev pub IsWrongFrom : Start → Question → SearchTask → Given → ℕ → List ℕ → WrongRun → Type 0
 IsWrongFrom start q task given steps numbers wrong =
