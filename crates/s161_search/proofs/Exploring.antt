@@ -21,8 +21,8 @@ explored_so task limit never files image given (Ok done) is h =
 explored_so task limit never files image given (Err fault) is h = tt
 
 pub explored_for : (task : SearchTask) (limit : ℕ) (words : List (List ℕ)) (given : Given) (inputs : Inputs) (r : Result Finished Fault) → HasNever task words given inputs →
-    IfOk r (λ done. PrintsExplored task limit (given_of inputs) done.text.items done.status) →
+    IfOk r (λ done. PrintsExplored limit (given_of inputs) done.text.items done.status) →
     IfOk r (λ done. PrintsExploredFor task limit words given done.text.items done.status)
 explored_for task limit words given inputs (Ok done) has h =
-    (inputs.never.items, has.1, subst (λ g. PrintsExplored task limit g done.text.items done.status) has.0 h)
+    (inputs.never.items, has.1, subst (λ g. PrintsExplored limit g done.text.items done.status) has.0 h)
 explored_for task limit words given inputs (Err fault) has h = tt

@@ -1,5 +1,6 @@
 pub mod Audits
 pub mod Given
+pub mod Runs
 pub mod Told
 pub mod Never
 pub mod Seeds

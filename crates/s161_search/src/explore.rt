@@ -3,10 +3,10 @@
 ghost use Rattle.std.specs.Prelude.{◌≢◌, ◌≡◌, ◌≤◌, ◌<◌, IfErr, IfOk, map};
 ghost use Rattle.s161_base.specs.Asked.{AsksFor};
 ghost use Rattle.s161_base.specs.Samples.{image_file};
-ghost use Rattle.s161_search.specs.Explores.{IsExplored, IsExploredBy, PrintsExplored, as_search};
+ghost use Rattle.s161_search.specs.Explores.{IsExplored, IsExploredBy, PrintsExplored, as_search, asked_size};
 ghost use Rattle.s161_search.specs.Given.{search_files};
 ghost use Rattle.s161_search.specs.Searches.{IsSearchFault};
-ghost use Rattle.s161_search.specs.Seeds.{IsRunFault};
+ghost use Rattle.s161_search.specs.Runs.{IsRunFault};
 ghost use Rattle.s161_search.specs.helpers.Begun.{BeginsAt};
 ghost use Rattle.s161_search.specs.helpers.Explored.{PrintsExploredFor};
 ghost use Rattle.s161_search.specs.helpers.Inputs.{given_of};
@@ -23,8 +23,21 @@ use m161_reach::{can_be_asked, explore_machine};
 use s161_base::fault::Fault;
 use s161_base::files::FileSource;
 use s161_base::finished::Finished;
-use s161_command::{Drive, ExploreTask, SearchTask};
+use s161_command::{AskedSize, Drive, ExploreTask, SearchTask, Size};
 use std::alloc::Global;
+
+// A machine of this size is asked for.
+fn asked_size(size: Size) -> AskedSize
+    ensures { result ≡ asked_size size }
+{
+    AskedSize {
+        ram: Some(size.ram),
+        processors: Some(size.processors),
+        log: size.log,
+        link: Some(size.link),
+        strict: size.strict,
+    }
+}
 
 // The search that reads what an exploration does.
 fn as_search(task: ExploreTask<'_>) -> SearchTask<'_>
@@ -32,13 +45,14 @@ fn as_search(task: ExploreTask<'_>) -> SearchTask<'_>
 {
     SearchTask {
         image: task.image,
-        size: task.size,
+        size: asked_size(task.size),
         drive: Drive {
             order: Order::Turns(1),
             events: 1,
             transfer: 0,
             gap: None,
             keys: task.keys,
+            after: None,
         },
         delays: None,
         seeds: 1,
@@ -96,6 +110,7 @@ fn explore_by<'a, F: FileSource>(
 }
 
 // Explores what was read.
+#[tactic(auto, using(crate::proofs::Failing::bare_is_never))]
 fn explore_in<'a>(
     alloc: Global,
     search: SearchTask<'a>,
@@ -108,26 +123,26 @@ fn explore_in<'a>(
     ensures fault { IfErr result (IsNeverFault search.entry (map (λ word. word.now) never.now) (given_of inputs)) }
     ensures within { IfOk result (λ done. (done.status ≤ 6) × (done.status ≢ 2)) }
 {
-    let booted = boot(alloc, search, &inputs)?;
+    let booted = boot(alloc, &inputs)?;
     let inputs = with_never(alloc, &booted, search, never, inputs)?;
-    explore_from(alloc, &booted, search, limit, &inputs)
+    explore_from(alloc, &booted, limit, &inputs)
 }
 
 // Explores from the state at boot.
+#[tactic(auto, using(crate::proofs::Failing::bare_is_run))]
 fn explore_from<'a>(
     alloc: Global,
     booted: &Booted<Tlb, Console>,
-    search: SearchTask<'a>,
     limit: u32,
     inputs: &Inputs,
 ) -> Result<Finished, Fault<'a>>
-    requires booted { BeginsAt search (given_of inputs.now) booted.now }
+    requires booted { BeginsAt (given_of inputs.now) booted.now }
     requires some { 0 < limit }
-    ensures ok { IfOk result (λ done. PrintsExplored search.entry limit (given_of inputs.now) done.text.items done.status) }
-    ensures fault { IfErr result (IsRunFault search.entry (given_of inputs.now)) }
+    ensures ok { IfOk result (λ done. PrintsExplored limit (given_of inputs.now) done.text.items done.status) }
+    ensures fault { IfErr result (IsRunFault (given_of inputs.now)) }
     ensures within { IfOk result (λ done. (done.status ≤ 6) × (done.status ≢ 2)) }
 {
-    check_watches(alloc, booted, search, inputs)?;
+    check_watches(alloc, booted, inputs)?;
     let core = booted.copy_core(alloc)?;
     let goal = inputs.goal();
     // Only files that are larger than those that are read can't be asked for.
@@ -135,5 +150,11 @@ fn explore_from<'a>(
         return Err(Fault::Memory);
     }
     let found = explore_machine(alloc, &core, &goal, limit)?;
-    Ok(print_answer(alloc, search.size, limit, &inputs.keys, found.answer)?)
+    Ok(print_answer(
+        alloc,
+        inputs.first.conf,
+        limit,
+        &inputs.all_keys,
+        found.answer,
+    )?)
 }

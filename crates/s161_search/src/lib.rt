@@ -15,6 +15,7 @@ mod orders;
 mod points;
 pub mod search;
 mod seeds;
+mod start;
 mod texts;
 pub mod told;
 pub mod watches;

@@ -11,4 +11,4 @@ use Rattle.s161_search.specs.helpers.Never.{with_addresses}
 abbrev pub PrintsExploredFor : SearchTask → ℕ → List (List ℕ) → Given → List ℕ → ℕ → Type 0
 PrintsExploredFor search limit words given text status =
     (addresses : List ℕ) × AreAddresses (symbols_in search given) words addresses
-    × PrintsExplored search limit (with_addresses given addresses) text status
+    × PrintsExplored limit (with_addresses given addresses) text status
