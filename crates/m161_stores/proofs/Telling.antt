@@ -140,7 +140,7 @@ record IsClosed (q : Question) (states : ℕ) : Type 0 where
   count : HaveViews (rules_of q) IsAny states
 
 tells_closed : (q : Question) (word states : ℕ) (again : Answer Sight Unknown) → IsClosed q states → Answers (storing_rules q word) states again →
-    TellsStores q word (Clean states) (says_unstored again)
+    TellsStores q (Clean states) word (says_unstored again)
 tells_closed q word states (Clean n) all is = λ es h. is.no_verdict es (is_judged q word es h)
 tells_closed q word states (Found es Store n) all is = (es.items, stores_last q word es.items is.has_verdict)
 tells_closed q word states (Found es (Wrong what) n) all is = absurd (all.no_verdict es.items (is_wrong q word es.items what is.has_verdict))
@@ -170,7 +170,7 @@ as_far q word limit size most one other = elim (cases_order most size) [
 ]
 
 tells_open : (q : Question) (word limit size : ℕ) (again : Answer Sight Unknown) → IsOpen (rules_of q) limit size → Answers (storing_rules q word) limit again →
-    TellsStores q word (Open size) (says_unstored again)
+    TellsStores q (Open size) word (says_unstored again)
 tells_open q word limit size (Clean n) one is = λ es l h. is.no_verdict es (is_judged q word es h)
 tells_open q word limit size (Found es Store n) one is = inl (es.items, stores_last q word es.items is.has_verdict)
 tells_open q word limit size (Found es (Wrong what) n) one is = λ fs l h.
@@ -182,8 +182,8 @@ tells_open q word limit size (Open most) one is = λ es l h.
     is.no_verdict es (omega (arith, l, far)) (is_judged q word es h)
 tells_open q word limit size (Ended reason) one is = inr (is.0, reason, stop_of q word is.0 reason is.1)
 
-as_hung : (q : Question) (word states : ℕ) (first : Answer Verdict Unknown) (b : Bool) → TellsStores q word (Clean states) b →
-    IsUnstored q word first ≡ NoneStores q word → IsUnsaid q word first ≡ SomeStores q word → TellsStores q word first b
+as_hung : (q : Question) (word states : ℕ) (first : Answer Verdict Unknown) (b : Bool) → TellsStores q (Clean states) word b →
+    IsUnstored q word first ≡ NoneStores q word → IsUnsaid q word first ≡ SomeStores q word → TellsStores q first word b
 as_hung q word states first true h none some = subst (λ (P : Type 0). P) (sym none) h
 as_hung q word states first false h none some = subst (λ (P : Type 0). P) (sym some) h
 
@@ -191,7 +191,7 @@ same_number : (n m : ℕ) → ◌≡◌ {A = Option ℕ} (Some n) (Some m) → n
 same_number n m h = cc
 
 pub tells : (q : Question) (word limit states : ℕ) (first : Answer Verdict Unknown) (again : Answer Sight Unknown) → Answers (rules_of q) limit first →
-    states_again limit first ≡ Some states → Answers (storing_rules q word) states again → TellsStores q word first (says_unstored again)
+    states_again limit first ≡ Some states → Answers (storing_rules q word) states again → TellsStores q first word (says_unstored again)
 tells q word limit states (Clean n) again one is two =
     tells_closed q word n again (record { no_verdict = one.no_verdict; no_stop = one.no_stop; count = one.count })
     (subst (λ m. Answers (storing_rules q word) m again) (sym (same_number n states is)) two)

@@ -52,6 +52,7 @@ IsUnsaid q word (Hung events states) = SomeStores q word
 IsUnsaid q word (Open size) = SomeStores q word ⊎ SomeStops q
 IsUnsaid q word (Ended reason) = Unit {0}
 
-abbrev pub TellsStores : Question → ℕ → Answer Verdict Unknown → Bool → Type 0
-TellsStores q word answer true = IsUnstored q word answer
-TellsStores q word answer false = IsUnsaid q word answer
+-- whether it is said of a word, by an answer
+abbrev pub TellsStores : Question → Answer Verdict Unknown → ℕ → Bool → Type 0
+TellsStores q answer word true = IsUnstored q word answer
+TellsStores q answer word false = IsUnsaid q word answer

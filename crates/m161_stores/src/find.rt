@@ -76,7 +76,7 @@ pub fn is_unstored<'a, T: Tlb + Drop, D: Console + Drop>(
     requires asked { CanBeAsked boot.now.state goal.now }
     requires some { 0 < limit }
     requires answers { Answers (rules_of (question_of boot.now.state goal.now found.now.known)) limit found.now.answer }
-    ensures { IfOk result (TellsStores (question_of boot.now.state goal.now found.now.known) word found.now.answer) }
+    ensures { IfOk result (TellsStores (question_of boot.now.state goal.now found.now.known) found.now.answer word) }
 {
     match states_again(limit, &found.answer) {
         Some(states) => {

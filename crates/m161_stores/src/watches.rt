@@ -37,9 +37,9 @@ fn unstored_of<'a, T: Tlb + Drop, D: Console + Drop>(
     requires some { 0 < limit }
     requires answers { Answers (rules_of (question_of boot.now.state goal.now found.now.known)) limit found.now.answer }
     ensures pte { IfOk result (λ unstored.
-        TellsStores (question_of boot.now.state goal.now found.now.known) watch.now.pte found.now.answer unstored.pte) }
+        TellsStores (question_of boot.now.state goal.now found.now.known) found.now.answer watch.now.pte unstored.pte) }
     ensures done { IfOk result (λ unstored.
-        TellsStores (question_of boot.now.state goal.now found.now.known) watch.now.done found.now.answer unstored.done) }
+        TellsStores (question_of boot.now.state goal.now found.now.known) found.now.answer watch.now.done unstored.done) }
 {
     Ok(Unstored {
         pte: is_unstored(alloc, boot, goal, limit, found, watch.pte)?,
@@ -63,7 +63,7 @@ pub fn unstored_watches<'a, T: Tlb + Drop, D: Console + Drop>(
     requires some { 0 < limit }
     requires answers { Answers (rules_of (question_of boot.now.state goal.now found.now.known)) limit found.now.answer }
     ensures { IfOk result (λ unstored.
-        AreUnstored (λ word is. TellsStores (question_of boot.now.state goal.now found.now.known) word found.now.answer is)
+        AreUnstored (TellsStores (question_of boot.now.state goal.now found.now.known) found.now.answer)
         goal.now.watches unstored.items) }
 {
     let watches = goal.watches;

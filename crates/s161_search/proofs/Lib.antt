@@ -11,3 +11,4 @@ pub mod Pointing
 pub mod Exploring
 mod Behind
 mod Starting
+mod Noting

@@ -15,18 +15,20 @@ use Rattle.m161_reach.specs.Reach.{IsLearnt, question_of, rules_of}
 use Rattle.m161_states.specs.declared.verdict.Unknown.{Unknown}
 use Rattle.m161_states.specs.declared.verdict.Verdict.{Verdict}
 use Rattle.m161_states.specs.declared.verdict.Verdict.TheVariants.{Stale, Reached, Conflict, Stuck, Output}
+use Rattle.m161_stores.specs.Stores.{TellsStores}
 use Rattle.m161_text.specs.Lines.{with_line_end}
 use Rattle.m161_text.specs.Parts.{◌␣◌}
 use Rattle.s161_command.specs.declared.task.ExploreTask.{ExploreTask}
 use Rattle.s161_command.specs.declared.task.SearchTask.{SearchTask}
 use Rattle.s161_search.specs.declared.told.SearchVerdict.TheVariants as told
 use Rattle.s161_search.specs.Given.{Given, criteria_of}
+use Rattle.s161_search.specs.Notes.{Notes}
 use Rattle.s161_search.specs.Searches.{IsGiven}
 use Rattle.s161_command.specs.declared.task.AskedSize.{AskedSize}
 use Rattle.s161_command.specs.declared.task.Size.{Size}
 use Rattle.s161_search.specs.Texts.{clean_text, found_text}
 
--- The output and the exit status of `explore`.
+-- The output and the exit status of `explore`, and what it says on standard error.
 
 -- a machine of this size is asked for
 abbrev pub asked_size : Size → AskedSize
@@ -92,8 +94,9 @@ PrintsAnswer conf limit keys (Open most) text status =
 PrintsAnswer conf limit keys (Ended reason) text status = ⊥
 
 -- what a search would read is explored: from the state at boot, with so much of time being known as Steps
--- read, the answer says what it says of all lists of events
-pub record PrintsExplored (limit : ℕ) (given : Given) (text : List ℕ) (status : ℕ)
+-- read, the answer says what it says of all lists of events; and it is said to which words of watches no
+-- Step stores
+pub record PrintsExplored (limit : ℕ) (given : Given) (text told : List ℕ) (status : ℕ)
     : Type 0 where
   pub good : (k : ℕ) → AreGood given.conf.ram given.watches k
   pub boot : State
@@ -103,18 +106,19 @@ pub record PrintsExplored (limit : ℕ) (given : Given) (text : List ℕ) (statu
   pub answer : Answer Verdict Unknown
   pub answers : Answers (rules_of (question_of boot (criteria_of given) known)) limit answer
   pub prints : PrintsAnswer given.conf limit given.all_keys answer text status
+  pub notes : Notes (TellsStores (question_of boot (criteria_of given) known) answer) given.watches told
 
 -- the same behind reading, with these words for the addresses of `--never`
 abbrev pub IsExploredBy :
-    SearchTask → ℕ → List (List ℕ) → (List ℕ → Option (List ℕ)) → Option (List ℕ) → List ℕ → ℕ
+    SearchTask → ℕ → List (List ℕ) → (List ℕ → Option (List ℕ)) → Option (List ℕ) → List ℕ → List ℕ → ℕ
     → Type 0
-IsExploredBy search limit never files image text status =
+IsExploredBy search limit never files image text told status =
     (given : Given) × IsGiven search never files image given
-    × PrintsExplored limit given text status
+    × PrintsExplored limit given text told status
 
--- a finished exploration: what it prints and its exit status
+-- a finished exploration: what it prints, what it says on standard error, and its exit status
 abbrev pub IsExplored :
-    ExploreTask → List (List ℕ) → (List ℕ → Option (List ℕ)) → Option (List ℕ) → List ℕ → ℕ
+    ExploreTask → List (List ℕ) → (List ℕ → Option (List ℕ)) → Option (List ℕ) → List ℕ → List ℕ → ℕ
     → Type 0
-IsExplored task never files image text status =
-    IsExploredBy (as_search task) (limit_of task) never files image text status
+IsExplored task never files image text told status =
+    IsExploredBy (as_search task) (limit_of task) never files image text told status

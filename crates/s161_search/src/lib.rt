@@ -11,6 +11,7 @@ pub mod explore;
 mod found;
 mod inputs;
 mod never;
+mod notes;
 mod orders;
 mod points;
 pub mod search;

@@ -12,6 +12,6 @@ find_store-requires-clause-some g c =
 pub returns-in_ok-again-in-Some : goal.returns-in_ok-again-in-Some
 returns-in_ok-again-in-Some g c =
     let q = question_of c.args.boot.now.state c.args.goal.now c.args.found.now.known in
-    subst (TellsStores q c.args.word c.args.found.now.answer) (sym c.says_unstored.ensures)
+    subst (TellsStores q c.args.found.now.answer c.args.word) (sym c.says_unstored.ensures)
     (tells q c.args.word c.args.limit c.in-Some.states c.args.found.now.answer c.in_ok-again-in-Some.again c.requires.answers
     (sym c.states_again.ensures ∙ c.in-Some.is) c.in_ok-again-in-Some.ensures)

@@ -12,7 +12,7 @@ use Rattle.m161_stores.proofs.watches.unstored_watches.Goals as goal
 pub loop-i-preserved : goal.loop-i-preserved
 loop-i-preserved g c =
     let q = question_of c.args.boot.now.state c.args.goal.now c.args.found.now.known in
-    let IsSo : ℕ → Bool → Type 0 = λ word is. TellsStores q word c.args.found.now.answer is in
+    let IsSo : ℕ → Bool → Type 0 = TellsStores q c.args.found.now.answer in
     let ws = c.args.goal.now.watches in
     let us = c.loop-i.unstored.items in
     let u = c.in_ok-unstored_of.field-0 in

@@ -7,5 +7,5 @@ use Rattle.m161_stores.proofs.watches.unstored_watches.Given as goal
 -- the watches so far
 abbrev pub invariant-loop-i : goal.invariant-loop-i
 invariant-loop-i g l =
-    AreUnstored (λ word is. TellsStores (question_of l.boot.state l.goal l.found.known) word l.found.answer is)
+    AreUnstored (TellsStores (question_of l.boot.state l.goal l.found.known) l.found.answer)
     (take l.i l.goal.watches) l.unstored.items

@@ -1,9 +1,11 @@
-use Rattle.std.proofs.Common.{◌∙◌, List, ℕ, subst, sym}
+use Rattle.std.proofs.Common.{◌∙◌, List, ℕ, string_bytes, subst, sym}
 use Rattle.m161_explore.specs.Answers.{Answers}
 use Rattle.m161_judge.specs.Verdict.{Criteria}
 use Rattle.m161_machine.specs.History.{IsBootState}
 use Rattle.m161_reach.specs.Reach.{IsLearnt, question_of, rules_of}
+use Rattle.m161_stores.specs.Stores.{TellsStores}
 use Rattle.s161_search.specs.Explores.{PrintsAnswer}
+use Rattle.s161_search.specs.Notes.{Notes}
 use Rattle.s161_search.specs.helpers.Inputs.{given_of}
 use Rattle.s161_search.proofs.Booting.{begins}
 use Rattle.s161_search.proofs.explore.explore_from.Goals as goal
@@ -32,4 +34,5 @@ returns-clause-ok c =
       prints =
           subst (λ (ks : List ℕ). PrintsAnswer given.conf c.args.limit ks found.answer done.text.items done.status) c.deref.ensures.value
           c.in_ok-print_answer.ensures.prints;
+      notes = subst (λ (k : Criteria). Notes (TellsStores (question_of boot k found.known) found.answer) k.watches (string_bytes c.explore_core.new.said)) c.goal-goal.ensures c.in_ok-found.ensures.said;
     }
