@@ -4,7 +4,6 @@ use Rattle.m161_audit.specs.declared.finding.AuditError.{AuditError}
 use Rattle.m161_audit.specs.declared.finding.AuditError.TheVariants as audit
 use Rattle.s161_base.proofs.Asking.{IsNoFile, asks_both, asks_none, boot_is_none, file_unread, refused}
 use Rattle.s161_base.specs.Asked.{Asks, AsksUntil, image_files, option_files}
-use Rattle.s161_base.specs.Reading.{IsOfText, IsTextUnread}
 use Rattle.s161_run.specs.Driven.{order_files}
 use Rattle.s161_base.specs.declared.fault.Fault.{Fault}
 use Rattle.s161_base.specs.declared.fault.Fault.TheVariants.{After, Conf, File, Image, Input, Log, LogImage, LogMachine, Memory, Never, Output, Schedule, Source, Threads, Touches, Watch, Watches, Word}
@@ -26,13 +25,6 @@ asks_all task a b c d e f image after keys watches output =
     let options = asks_both (option_files task.drive.after) (option_files task.drive.keys) b c d after keys in
     let order = asks_both (image_files task.image.now) (option_files task.drive.after ++ option_files task.drive.keys) a b d image options in
     asks_both (order_files task.image.now task.drive) (flat_map option_files (task.watches ∷ task.output ∷ [])) a d f order more
-
--- the text of an option isn't read, and the rest isn't asked for
-pub text_unread : (name : Option (Bor (List ℕ))) (files : List ℕ → Option (List ℕ)) (rest : List (List ℕ)) (a b : Option (List (List ℕ))) (fault : Fault) →
-    Asks (option_files name) a b → IsTextUnread name files fault ⊎ (fault ≡ Memory) → AsksUntil (option_files name ++ rest) a b fault
-text_unread None files rest a b fault asks (inl is) = absurd is
-text_unread None files rest a b fault asks (inr is) = refused [] rest a b fault asks is
-text_unread (Some name) files rest a b fault asks h = file_unread name (IsOfText (files name.now)) rest a b fault asks h
 
 -- a line of the watches
 pub line_is_none : (text : Option (List ℕ)) (fault : Fault) → IsFaultIn text fault → IsNoFile fault

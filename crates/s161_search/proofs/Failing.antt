@@ -12,6 +12,9 @@ use Rattle.m161_judge.specs.Judge.{BootsState, IsUnjudged, Judges}
 use Rattle.m161_machine.specs.declared.event.Event.{Event}
 use Rattle.m161_machine.specs.State.{State}
 use Rattle.m161_machine.specs.declared.event.Refusal.{Refusal}
+use Rattle.m161_machine.specs.declared.event.Refusal.TheVariants as refusal
+use Rattle.s161_base.specs.Faults.{BootsIn, fault_of_first}
+use Rattle.s161_run.specs.Behind.{RefusesFirst}
 use Rattle.m161_machine.specs.declared.conf.BootError.{BootError}
 use Rattle.m161_machine.specs.declared.conf.Conf.{Conf as ConfValue}
 use Rattle.m161_machine.specs.History.{boot_fault}
@@ -174,6 +177,21 @@ pub boots_none : (given : Given) (s : State) (fault : Option BootError) → boot
     BootsState given.file given.conf fault (Ok s) → boot_fault given.file given.conf ≡ None
 boots_none given s (Some first) has h = absurd h
 boots_none given s None has h = has
+
+-- an event of the first ones is refused
+refused_first : (given : Given) (s : State) (k : ℕ) (why : Refusal) → ((j : ℕ) → AreGood given.conf.ram given.watches j) → BootsIn given.file given.conf s →
+    RefusesFirst s given.first k why → IsRunFault given (fault_of_first k why)
+refused_first given s k refusal.NoMemory good boots h = tt
+refused_first given s k refusal.BadProcessor good boots h = (good, record { booted = s; boots = boots; refuses = h; not_memory = λ same. absurd (cc) })
+refused_first given s k refusal.Off good boots h = (good, record { booted = s; boots = boots; refuses = h; not_memory = λ same. absurd (cc) })
+refused_first given s k refusal.Worn good boots h = (good, record { booted = s; boots = boots; refuses = h; not_memory = λ same. absurd (cc) })
+refused_first given s k refusal.KeyFull good boots h = (good, record { booted = s; boots = boots; refuses = h; not_memory = λ same. absurd (cc) })
+refused_first given s k refusal.NothingSent good boots h = (good, record { booted = s; boots = boots; refuses = h; not_memory = λ same. absurd (cc) })
+
+pub first_refused : (given : Given) (s : State) (fault : Fault) → ((j : ℕ) → AreGood given.conf.ram given.watches j) → BootsIn given.file given.conf s →
+    (fault ≡ Memory) ⊎ ((k : ℕ) × (why : Refusal) × RefusesFirst s given.first k why × (fault ≡ fault_of_first k why)) → IsRunFault given fault
+first_refused given s fault good boots (inl is) = subst (IsRunFault given) (sym is) tt
+first_refused given s fault good boots (inr (k, why, h, is)) = subst (IsRunFault given) (sym is) (refused_first given s k why good boots h)
 
 -- a word stands for no address
 pub word_failed : (task : SearchTask) (words : List (List ℕ)) (given : Given) (fault : Fault) → boot_fault given.file given.conf ≡ None →
