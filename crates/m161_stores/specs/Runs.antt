@@ -1,4 +1,4 @@
-use Rattle.std.specs.Prelude.{ℕ, Bool, false, ◌==◌, ◌||◌, List, [], ◌∷◌, Option, None, Some, Result, Ok, Err}
+use Rattle.std.specs.Prelude.{ℕ, Bool, false, ◌==◌, ◌||◌, if◌then◌else◌, List, [], ◌∷◌, Option, None, Some, Result, Ok, Err}
 use Rattle.m161_cpu.specs.declared.processor.Outcome.{Outcome}
 use Rattle.m161_machine.specs.declared.event.Event.{Event}
 use Rattle.m161_machine.specs.declared.event.Refusal.{Refusal}
@@ -28,3 +28,10 @@ abbrev pub stores_in : ℕ → State → List Event → Bool
 stores_in word s [] = false
 stores_in word s (e ∷ es) =
     stores_at word s e (next s e) || stores_in word (state_behind s (next s e)) es
+
+-- the state behind the first of them, or behind all of them where none is
+abbrev pub state_at_store : ℕ → State → List Event → State
+state_at_store word s [] = s
+state_at_store word s (e ∷ es) =
+    if stores_at word s e (next s e) then state_behind s (next s e)
+    else state_at_store word (state_behind s (next s e)) es

@@ -3,7 +3,7 @@
 ghost use Rattle.std.specs.Prelude.{◌≡◌, IfOk, OnOk};
 ghost use Rattle.m161_machine.specs.State.{next};
 ghost use Rattle.m161_machine.specs.declared.event.Event.TheVariants as events;
-ghost use Rattle.m161_stores.specs.Runs.{state_behind, stores_at, stores_in};
+ghost use Rattle.m161_stores.specs.Runs.{state_at_store, state_behind, stores_at, stores_in};
 
 use crate::storing::is_word;
 use m161_bus::Console;
@@ -72,7 +72,8 @@ pub fn stores_to<T: Tlb, D: Console>(
     events: &[Event],
     word: u32,
 ) -> Result<bool, AllocError>
-    ensures { IfOk result (λ stores. stores ≡ stores_in word core.old.state events.now) }
+    ensures stores { IfOk result (λ stores. stores ≡ stores_in word core.old.state events.now) }
+    ensures state { OnOk result (core.new.state ≡ state_at_store word core.old.state events.now) }
 {
     for event in events {
         if pass(core, *event, word)? {

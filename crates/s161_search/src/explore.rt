@@ -141,7 +141,7 @@ fn explore_in<'a>(
 // Explores a machine, and says to which words of watches no Step stores.
 fn explore_core<'a>(
     alloc: Global,
-    core: &'a Core<Tlb, Console>,
+    core: &'a Core,
     goal: &'a Goal<'a>,
     limit: u32,
     said: &mut String,

@@ -11,5 +11,5 @@ returns-clause-ok c =
 
 pub returns-clause-fault : goal.returns-clause-fault
 returns-clause-fault c =
-    failed_for c.args.search (map (λ word. word.now) c.args.never.now) (given_of c.args.inputs) c.in_ok-inputs.inputs (string_bytes c.explore_from.new.said) c.explore_from.result
+    failed_for c.args.search (map (λ word. word.now) c.args.never.now) (given_of c.args.inputs) c.in_ok-inputs.inputs c.explore_from.result
     c.in_ok-inputs.ensures.ok c.explore_from.ensures.fault
