@@ -33,24 +33,24 @@ leads_down s events n k t few less h =
     let all = cut_length events n few in
     (omega (arith, less, all), subst (λ es. after s es ≡ Some t) (sym (take-take k n events less)) h.1)
 
-stuck_up : (goal : Criteria) (s : State) (events : List Event) (n k : ℕ) (t : State) → n ≤ length events → IsStuckAfter goal s (take n events) k t →
+pub stuck_up : (goal : Criteria) (s : State) (events : List Event) (n k : ℕ) (t : State) → n ≤ length events → IsStuckAfter goal s (take n events) k t →
     (k ≤ n) × IsStuckAfter goal s events k t
 stuck_up goal s events n k t few h =
     let at = leads_up s events n k t few h.0 in
     (at.0, (at.1, subst (λ es. is_stuck (has_keys goal.keys es) t ≡ true) (take-take k n events at.0) h.1))
 
-stuck_down : (goal : Criteria) (s : State) (events : List Event) (n k : ℕ) (t : State) → n ≤ length events → k ≤ n → IsStuckAfter goal s events k t →
+pub stuck_down : (goal : Criteria) (s : State) (events : List Event) (n k : ℕ) (t : State) → n ≤ length events → k ≤ n → IsStuckAfter goal s events k t →
     IsStuckAfter goal s (take n events) k t
 stuck_down goal s events n k t few less h =
     (leads_down s events n k t few less h.0, subst (λ es. is_stuck (has_keys goal.keys es) t ≡ true) (sym (take-take k n events less)) h.1)
 
-badly_up : (goal : Criteria) (s : State) (events : List Event) (n k : ℕ) → n ≤ length events → IsStuckBadly goal s (take n events) k →
+pub badly_up : (goal : Criteria) (s : State) (events : List Event) (n k : ℕ) → n ≤ length events → IsStuckBadly goal s (take n events) k →
     (k ≤ n) × IsStuckBadly goal s events k
 badly_up goal s events n k few h =
     let at = stuck_up goal s events n k h.0 few h.1 in
     (at.0, (h.0, at.1, h.2))
 
-badly_down : (goal : Criteria) (s : State) (events : List Event) (n k : ℕ) → n ≤ length events → k ≤ n → IsStuckBadly goal s events k →
+pub badly_down : (goal : Criteria) (s : State) (events : List Event) (n k : ℕ) → n ≤ length events → k ≤ n → IsStuckBadly goal s events k →
     IsStuckBadly goal s (take n events) k
 badly_down goal s events n k few less h = (h.0, stuck_down goal s events n k h.0 few less h.1, h.2)
 

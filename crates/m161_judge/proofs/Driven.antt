@@ -1,5 +1,5 @@
 use Rattle.std.proofs.Common.{◌≡◌, ◌∙◌, refl, sym, ap, subst, ℕ, zero, suc, ◌+◌, ◌<◌, true, false, List, [], ◌∷◌, length, take, arith}
-use Rattle.std.specs.Prelude.{Option, None, count_by, is_some, nat_lt, slice_get}
+use Rattle.std.specs.Prelude.{None, count_by, is_some, nat_lt, slice_get}
 use Rattle.std.proofs.lemmas.Bool.Decides.{nat_tests}
 use Rattle.std.proofs.lemmas.List.{take_all}
 use Rattle.m161_machine.specs.declared.event.Entry.{Entry}
@@ -13,7 +13,8 @@ use Rattle.m161_drive.specs.Drive.{Chooses, Drives}
 use Rattle.m161_drive.specs.Policy.{Rules}
 use Rattle.m161_judge.specs.declared.seen.Seen.{Seen}
 use Rattle.m161_judge.specs.Verdict.{Criteria, LeadsTo, after, has_keys, is_key, is_stuck}
-use Rattle.m161_judge.specs.helpers.Walk.{Ends, HasSeen}
+use Rattle.m161_judge.specs.Seen.{HasSeen}
+use Rattle.m161_judge.specs.helpers.Walk.{Ends}
 use Rattle.m161_judge.proofs.Choosing.{chooses_leads, not_stuck_on_the_way}
 
 -- Driven runs.

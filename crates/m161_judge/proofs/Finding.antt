@@ -26,7 +26,7 @@ use Rattle.m161_judge.specs.Judge.{BootsState, IsUnjudged, Judges}
 use Rattle.m161_judge.specs.Run.{Runs, with_keys_of}
 use Rattle.m161_judge.specs.Verdict.{Criteria, Holds, rank}
 use Rattle.m161_judge.specs.helpers.Reach.{FindsReach}
-use Rattle.m161_judge.specs.helpers.Walk.{DrivesRest, DrivesRun, IsJudgedOfSteps, Joins, JoinsSteps, JudgesSteps, Walks}
+use Rattle.m161_judge.specs.helpers.Walk.{DrivesRun, IsJudgedOfSteps, Joins, JoinsSteps, JudgesSteps, Walks}
 use Rattle.m161_judge.proofs.Judging.{place_is_below}
 
 -- The audit, as it is used.
@@ -189,14 +189,3 @@ run_judged file conf None s rules n goal run of_steps judged boots h finds joins
       judged = joins aim s run.events.items h.made (with_keys goal rules s run.events.items of_steps finds.1) (h.beside aim refl refl);
       cut = h.cut;
     }
-
--- of one that was begun
-
-pub rest_undriven : (file : List ℕ) (conf : Conf) (fault : Option BootError) (s : State) (rules : Rules) (n : ℕ) (goal : Criteria)
-    (error : AuditError) → BootsState file conf fault (Ok s) → error ≡ Boot NoMemory → Runs file conf fault rules n (with_keys_of rules goal) (Err error)
-rest_undriven file conf (Some first) s rules n goal error boots h = absurd boots
-rest_undriven file conf None s rules n goal error boots h = no_memory conf goal.watches error h
-
-pub rest_error : (rules : Rules) (n : ℕ) (output : Option (List ℕ)) (s : State) (begun : List Event) (error : AuditError) →
-    DrivesRest rules n output s begun (Err error) → error ≡ Boot NoMemory
-rest_error rules n output s begun error h = h

@@ -21,7 +21,8 @@ use Rattle.m161_judge.specs.Judge.{bytes_of}
 use Rattle.m161_judge.specs.Verdict.{Criteria, HasSent, Holds, IsRefused, IsStuckAfter, IsStuckBadly, LeadsTo, rank}
 use Rattle.m161_judge.specs.declared.reach.Reach.{Reach}
 use Rattle.m161_judge.specs.Memory.{IsFirstReach}
-use Rattle.m161_judge.specs.helpers.Walk.{Ends, HasSeen, IsConflictOff, IsFirstBad, IsJudgedBehind, IsJudgedBeside, Joins, JoinsSteps, WasStuck, judged_reach}
+use Rattle.m161_judge.specs.Seen.{HasSeen, IsFirstBad, WasStuck}
+use Rattle.m161_judge.specs.helpers.Walk.{Ends, IsConflictOff, IsJudgedBehind, IsJudgedBeside, Joins, JoinsSteps, judged_reach}
 use Rattle.m161_judge.proofs.Running.{leads_to_one, made_within, none_past_off}
 
 -- Verdicts of runs that have ended.

@@ -1,5 +1,5 @@
 use Rattle.std.proofs.Common.{◌≡◌, ◌∙◌, inl, inr, refl, sym, subst, ℕ, true, false, List, [], ◌++◌, length, append_assoc}
-use Rattle.std.specs.Prelude.{Option, None, Some, Result, Ok, Err, slice_get}
+use Rattle.std.specs.Prelude.{Option, None, Some, Result, Ok, Err}
 use Rattle.m161_machine.specs.declared.conf.BootError.TheVariants.{NoMemory}
 use Rattle.m161_machine.specs.declared.event.Event.{Event}
 use Rattle.m161_machine.specs.State.{State}
@@ -10,14 +10,13 @@ use Rattle.m161_audit.specs.declared.finding.AuditError.TheVariants.{Boot, BadWa
 use Rattle.m161_audit.specs.declared.finding.Finding.TheVariants as finding
 use Rattle.m161_audit.specs.declared.watch.Watch.{Watch}
 use Rattle.m161_audit.specs.Going.{IsMemoryAfter, IsMemoryOf, Memory, Starts}
-use Rattle.m161_audit.specs.Stale.{IsFinding, IsStaleAt, IsStaleVia, UsesStale}
+use Rattle.m161_audit.specs.Stale.{IsFinding, IsStaleVia, UsesStale}
 use Rattle.m161_audit.specs.Watch.{AreGood}
 use Rattle.m161_judge.specs.declared.reach.Reach.{Reach}
-use Rattle.m161_judge.specs.declared.reach.Sought.{Sought}
 use Rattle.m161_judge.specs.declared.reach.Sought.TheVariants.{Open, Over}
 use Rattle.m161_judge.specs.Judge.{IsUnjudged}
 use Rattle.m161_judge.specs.Memory.{IsAuditOf, IsKeptAfter, IsKeptOf, IsReachOf, ReachMemory, StartsSteps, StepsMemory}
-use Rattle.m161_judge.specs.Verdict.{Criteria, IsReachAt}
+use Rattle.m161_judge.specs.Verdict.{Criteria}
 use Rattle.m161_judge.specs.Memory.{IsFirstReach, IsSought, Reaching}
 use Rattle.m161_judge.specs.helpers.Steps.{IsAuditAfter, IsReachAfter, ReachesOn, finding_of, reach_of}
 use Rattle.m161_judge.proofs.Reaching.{first_sought, reaching_longer, reaching_none}

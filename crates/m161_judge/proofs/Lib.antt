@@ -10,3 +10,4 @@ mod Cutting
 mod Exact
 mod Reaching
 mod Keeping
+mod Behind

@@ -21,7 +21,7 @@ ok_is_not : (given : Outcome × State) (refusal : Refusal) → ◌≡◌ {A = Re
 ok_is_not given refusal h = cc
 
 -- an event behind which a run goes on is accepted
-going_some : (x : Result (Outcome × State) Refusal) (f : State → Option State) (u : State) → going_on x f ≡ Some u →
+pub going_some : (x : Result (Outcome × State) Refusal) (f : State → Option State) (u : State) → going_on x f ≡ Some u →
     (given : Outcome × State) × (x ≡ Ok given) × (f given.1 ≡ Some u)
 going_some (Ok given) f u h = (given, refl, h)
 going_some (Err refusal) f u h = absurd (none_is_not u h)

@@ -6,13 +6,13 @@ use Rattle.m161_machine.specs.declared.event.Event.{Event}
 use Rattle.m161_machine.specs.State.{State}
 use Rattle.m161_judge.specs.declared.seen.Seen.{Seen}
 use Rattle.m161_judge.specs.Verdict.{Criteria, HasSent, IsStuckAfter, IsStuckBadly, LeadsTo, has_keys, is_stuck}
-use Rattle.m161_judge.specs.helpers.Walk.{HasSeen, IsFirstBad, WasStuck}
+use Rattle.m161_judge.specs.Seen.{HasSeen, IsFirstBad, WasStuck}
 use Rattle.m161_judge.proofs.Running.{leads_to_one}
 
 -- What is seen at one more state.
 
 -- a number below n + 1 is below n, or is n
-below : (k n : ℕ) → k < n + 1 → (k < n) ⊎ (k ≡ n)
+pub below : (k n : ℕ) → k < n + 1 → (k < n) ⊎ (k ≡ n)
 below k n h = elim (eqb_tells k n) as (λ _. (k < n) ⊎ (k ≡ n)) [
   | inl e ↦ inr e.1
   | inr e ↦ inl (omega (arith, e.1, h))

@@ -8,7 +8,8 @@ use Rattle.m161_machine.specs.declared.event.Event.TheVariants.{Step, Key, Done}
 use Rattle.m161_machine.specs.State.{State}
 use Rattle.m161_judge.specs.declared.seen.Seen.{Seen}
 use Rattle.m161_judge.specs.Verdict.{Criteria, IsRefused, LeadsTo, has_keys, is_key}
-use Rattle.m161_judge.specs.helpers.Walk.{Ends, HasSeen, MakesEvent, left_after}
+use Rattle.m161_judge.specs.Seen.{HasSeen}
+use Rattle.m161_judge.specs.helpers.Walk.{Ends, MakesEvent, left_after}
 use Rattle.m161_judge.proofs.Judging.{refused_at}
 use Rattle.m161_judge.proofs.Running.{leads_more}
 

@@ -17,6 +17,7 @@
 
 mod booted;
 mod events;
+mod first;
 mod goal;
 mod laws;
 mod list;
@@ -32,6 +33,7 @@ mod verdict;
 mod walk;
 
 pub use booted::Booted;
+pub use first::First;
 pub use goal::Goal;
 pub use laws::{cut_keeps_verdict, first_is_no_worse, one_verdict, stuck_is_no_choice};
 pub use list::{judge, judge_events};

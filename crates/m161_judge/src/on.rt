@@ -1,20 +1,17 @@
 //! The verdict of a driven run that was begun.
 
-ghost use Rattle.std.specs.Prelude.{ℕ, List, Ok};
-ghost use Rattle.m161_machine.specs.declared.conf.Conf.{Conf as ConfValue};
-ghost use Rattle.m161_machine.specs.History.{boot_fault};
+ghost use Rattle.std.specs.Prelude.{List};
+ghost use Rattle.m161_machine.specs.declared.event.Event.{Event as EventValue};
 ghost use Rattle.m161_machine.specs.State.{State};
-ghost use Rattle.m161_judge.specs.Begun.{IsBegun};
-ghost use Rattle.m161_judge.specs.Judge.{BootsState, bytes_of};
+ghost use Rattle.m161_judge.specs.Begun.{AreKeysBehind, IsBegun, IsFirstOf, RunsBehind};
 ghost use Rattle.m161_judge.specs.Memory.{IsKeptOf};
-ghost use Rattle.m161_judge.specs.Run.{Runs, with_keys_of};
 ghost use Rattle.m161_judge.specs.helpers.Walk.{DrivesRest};
 
 use crate::events::count_keys;
+use crate::first::First;
 use crate::goal::Goal;
 use crate::memory::StepMemory;
 use crate::run::{JudgedRun, is_cut};
-use crate::seen::nothing_seen;
 use crate::steps::first_verdict;
 use m161_audit::AuditError;
 use m161_bus::Console;
@@ -28,30 +25,37 @@ fn drive_rest<T: Tlb, D: Console>(
     policy: &Policy,
     cursor: Cursor,
     n: u64,
+    first: First,
     begun: Vec<Event>,
-    output: Option<&[u8]>,
+    goal: &Goal,
 ) -> Result<JudgedRun, AuditError>
-    ensures { (s : State) → IsBegun policy.now n s cursor core.old.state begun.items
-        → DrivesRest policy.now n (bytes_of output.entry) s begun.items result }
+    ensures { (s u : State) (fs : List EventValue)
+        → IsFirstOf goal.now s fs u first
+        → AreKeysBehind goal.now fs u policy.now
+        → IsBegun policy.now n fs u cursor core.old.state begun.items
+        → DrivesRest policy.now n goal.now s fs u begun.items result }
 {
     let mut events = begun;
-    let left = n.saturating_sub(events.len() as u64);
+    let chosen = events.len().saturating_sub(first.made);
+    let left = n.saturating_sub(chosen as u64);
     let driven = drive_on(core, policy, cursor, left, &mut events)?;
     if let Stop::Refused(_) = driven.stop {
         return Err(AuditError::Boot(BootError::NoMemory));
     }
-    let keys_left = policy.key(count_keys(&events)).is_some();
+    let keys_left = count_keys(&events) < goal.keys.len();
     let made = events.len();
-    let seen = nothing_seen().look(core, made, keys_left, output);
+    let seen = first.seen.look(core, made, keys_left, goal.output);
     Ok(JudgedRun {
         events,
-        judged: seen.verdict(core, made, output),
+        judged: seen.verdict(core, made, goal.output),
         is_cut: is_cut(core, driven.stop, keys_left),
     })
 }
 
-/// The same as `judge_booted`, of a run whose first events were made: they are `begun`, and led to this
-/// state, with this cursor; `steps` is what is kept of their Steps. None of them is made again.
+/// Goes on with a run that was begun, and judges the whole of it: first events from a state on, of which
+/// `first` is kept, and behind them at most `n` that a policy chooses. Those that were made are `begun`;
+/// they led to the machine's state, with this cursor, and `steps` is what is kept of their Steps. None of
+/// them is made again.
 ///
 /// # Errors
 /// Memory was refused, also at an event `Done`.
@@ -60,18 +64,20 @@ pub fn judge_rest<T: Tlb + Drop, D: Console + Drop>(
     policy: &Policy,
     cursor: Cursor,
     n: u64,
+    first: First,
     begun: Vec<Event>,
     steps: StepMemory<T, D>,
     goal: &Goal,
 ) -> Result<JudgedRun, AuditError>
-    ensures { (file : List ℕ) (conf : ConfValue) (s : State)
-        → BootsState file conf (boot_fault file conf) (Ok s)
-        → IsBegun policy.now n s cursor core.old.state begun.items
+    ensures { (s u : State) (fs : List EventValue)
+        → IsFirstOf goal.now s fs u first
+        → AreKeysBehind goal.now fs u policy.now
+        → IsBegun policy.now n fs u cursor core.old.state begun.items
         → IsKeptOf goal.now s begun.items steps
-        → Runs file conf (boot_fault file conf) policy.now n (with_keys_of policy.now goal.now) result }
+        → RunsBehind policy.now n goal.now s fs u result }
 {
     let mut steps = steps;
-    let run = drive_rest(core, policy, cursor, n, begun, goal.output)?;
+    let run = drive_rest(core, policy, cursor, n, first, begun, goal)?;
     steps.go_on(&run.events, goal)?;
     Ok(JudgedRun {
         events: run.events,

@@ -5,7 +5,8 @@ ghost use Rattle.m161_machine.specs.declared.event.Event.{Event};
 ghost use Rattle.m161_machine.specs.State.{State};
 ghost use Rattle.m161_judge.specs.Judge.{bytes_of};
 ghost use Rattle.m161_judge.specs.Verdict.{Criteria, LeadsTo, has_keys};
-ghost use Rattle.m161_judge.specs.helpers.Walk.{Ends, HasSeen, IsConflictOff, IsJudgedBehind, IsJudgedBeside};
+ghost use Rattle.m161_judge.specs.Seen.{HasSeen};
+ghost use Rattle.m161_judge.specs.helpers.Walk.{Ends, IsConflictOff, IsJudgedBehind, IsJudgedBeside};
 
 use crate::stuck::{has_sent, is_stuck};
 use crate::verdict::{Judged, Verdict};

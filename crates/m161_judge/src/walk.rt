@@ -38,8 +38,11 @@ pub(crate) fn make_event<T: Tlb, D: Console>(
     }
 }
 
-// The same, where only that it was accepted counts.
-fn make<T: Tlb, D: Console>(core: &mut Core<T, D>, event: Event) -> Result<bool, AuditError>
+/// The same, where only that it was accepted counts.
+pub(crate) fn make<T: Tlb, D: Console>(
+    core: &mut Core<T, D>,
+    event: Event,
+) -> Result<bool, AuditError>
     ensures { MakesEvent core.old.state event result core.new.state }
 {
     match make_event(core, event)? {
@@ -48,8 +51,8 @@ fn make<T: Tlb, D: Console>(core: &mut Core<T, D>, event: Event) -> Result<bool,
     }
 }
 
-// How many keys are left after an event.
-fn left_after(left: usize, event: Event) -> usize
+/// How many keys are left after an event.
+pub(crate) fn left_after(left: usize, event: Event) -> usize
     ensures { result ≡ left_after left event }
 {
     match event {

@@ -4,7 +4,7 @@ ghost use Rattle.std.specs.Prelude.{◌≡◌, ◌+◌, ◌<◌, ◌++◌, IfOk,
 ghost use Rattle.m161_explore.specs.Rules.{Advances};
 ghost use Rattle.m161_alike.specs.Addresses.{Cover};
 ghost use Rattle.m161_states.specs.Question.{booted, processors_of};
-ghost use Rattle.m161_states.specs.System.{Explored, agreed_at_boot, next, start};
+ghost use Rattle.m161_states.specs.System.{Explored, agreed_at_boot, event_of, next, start, stored_of};
 ghost use Rattle.m161_states.specs.Verdicts.{is_end, stop};
 ghost use Rattle.m161_states.specs.Views.{view};
 ghost use Rattle.m161_judge.specs.Judge.{bytes_of};
@@ -166,6 +166,15 @@ impl<'a, T: Tlb + Drop, D: Console + Drop> Machines<'a, T, D> {
         } else {
             None
         }
+    }
+
+    /// The word of RAM that an event stores to, if it is a Step that does. Whether it is accepted isn't
+    /// looked at.
+    pub fn stores_to(&self, hand: &Hand<T, D>, event: u32) -> Option<u32>
+        requires { IsMet self.now hand.now.place }
+        ensures { result ≡ stored_of (event_of self.now hand.now.place event) hand.now.place.state }
+    {
+        self.stored_at(&hand.place, event)
     }
 
     /// Whether an input is refused: the console has nothing to send, or no key is left. Of a Step nothing is

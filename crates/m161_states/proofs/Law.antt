@@ -24,10 +24,10 @@ use Rattle.m161_alike.specs.WordsLaw.{ViewLaw}
 use Rattle.m161_states.specs.declared.verdict.Unknown.{Unknown}
 use Rattle.m161_states.specs.declared.verdict.Verdict.TheVariants.{Conflict, Output, Stale, Stuck}
 use Rattle.m161_states.specs.Question.{Question, processors_of}
-use Rattle.m161_states.specs.System.{Explored, accepted, agreed_after, behind, event_of, flags_behind, fresh, next_by, stored_by, typed_after}
+use Rattle.m161_states.specs.System.{Explored, accepted, agreed_after, behind, event_of, flags_behind, fresh, next_by, stored_by, stored_if, stored_of, typed_after}
 use Rattle.m161_states.specs.Verdicts.{has_sent, is_end, is_old_row, is_outside, is_stuck_in, judged, reached_at, reached_by, some_watch, stale_use, stale_via, stop, stop_by, unknown_by, verdict_by, wrong_in, wrong_with}
 use Rattle.m161_states.specs.Views.{view}
-use Rattle.m161_states.specs.Laws.{AlikeEnd, AlikeNext, AlikeStop, AlikeVerdict}
+use Rattle.m161_states.specs.Laws.{AlikeEnd, AlikeNext, AlikeStop, AlikeStored, AlikeVerdict}
 use Rattle.m161_states.proofs.Seen.{Same, same_processor, same_size, shown, told}
 
 -- States with one view behave alike.
@@ -297,3 +297,36 @@ pub alike_verdict : AlikeLaw → ViewLaw → AlikeVerdict
 alike_verdict law views q x y n a b e stop =
     let same = told views q x y a b e in
     verdict_event law q x y (event_of q x n) same stop ∙ ap (verdict_by q.goal y) (same_event q x y n same.typed)
+
+-- stores
+
+stored_answers : (q : Question) (x y : Explored) (e : Event) (r o : Result (Outcome × State) Refusal) →
+    BehaveAlike q.known e (fresh x.state) (fresh y.state) → AnswersAlike q.known r o →
+    stored_if (accepted q.goal x e r) (stored_by e x.state) ≡ stored_if (accepted q.goal y e o) (stored_by e y.state)
+stored_answers q x y e (Ok a) (Ok b) behave answers = same_stored q x y e behave.uses
+stored_answers q x y e (Err r) (Err o) behave answers = refl
+stored_answers q x y e (Err r) (Ok b) behave answers = absurd answers
+stored_answers q x y e (Ok a) (Err o) behave answers = absurd answers
+
+stored_alike : AlikeLaw → (q : Question) (x y : Explored) (e : Event) → Same q x y →
+    ReadsWithin q.known e (fresh x.state) ⊎ (x.state.board.off ≡ true) →
+    stored_if (next_by q.goal x (Some e)) (stored_by e x.state) ≡ stored_if (next_by q.goal y (Some e)) (stored_by e y.state)
+stored_alike law q x y e same (inl within) =
+    let behave = behaves law q x y e same within in
+    stored_answers q x y e (result_of (fresh x.state) e) (result_of (fresh y.state) e) behave behave.answers
+stored_alike law q x y e same (inr off) =
+    let one = off_refuses (fresh x.state) e off in
+    let other = off_refuses (fresh y.state) e (sym (both_off x.state y.state q.known same.alike) ∙ off) in
+    ap (λ r. stored_if (accepted q.goal x e r) (stored_by e x.state)) one.1
+    ∙ sym (ap (λ r. stored_if (accepted q.goal y e r) (stored_by e y.state)) other.1)
+
+stored_event : AlikeLaw → (q : Question) (x y : Explored) (e : Option Event) → Same q x y → stop_by q x e ≡ None →
+    stored_if (next_by q.goal x e) (stored_of e x.state) ≡ stored_if (next_by q.goal y e) (stored_of e y.state)
+stored_event law q x y None same stop = refl
+stored_event law q x y (Some e) same stop = stored_alike law q x y e same (within_or_off q x e stop)
+
+pub alike_stored : AlikeLaw → ViewLaw → AlikeStored
+alike_stored law views q x y n a b e stop =
+    let same = told views q x y a b e in
+    stored_event law q x y (event_of q x n) same stop
+    ∙ ap (λ f. stored_if (next_by q.goal y f) (stored_of f y.state)) (same_event q x y n same.typed)

@@ -1,7 +1,7 @@
 use Rattle.std.specs.Prelude.{◌≡◌, ℕ, None, Some}
 use Rattle.m161_alike.specs.WordsLaw.{AreOfOneConf}
 use Rattle.m161_states.specs.Question.{Question}
-use Rattle.m161_states.specs.System.{Explored, next, start}
+use Rattle.m161_states.specs.System.{Explored, next, start, stored}
 use Rattle.m161_states.specs.Verdicts.{is_end, stop, verdict}
 use Rattle.m161_states.specs.Shape.{IsShaped}
 use Rattle.m161_states.specs.Views.{view}
@@ -34,6 +34,11 @@ abbrev pub AlikeVerdict : Type 0
 AlikeVerdict =
     (q : Question) (x y : Explored) (n : ℕ) → IsValid q x → IsValid q y → view q x ≡ view q y
     → stop q x n ≡ None → verdict q x n ≡ verdict q y n
+
+abbrev pub AlikeStored : Type 0
+AlikeStored =
+    (q : Question) (x y : Explored) (n : ℕ) → IsValid q x → IsValid q y → view q x ≡ view q y
+    → stop q x n ≡ None → stored q x n ≡ stored q y n
 
 abbrev pub AlikeEnd : Type 0
 AlikeEnd =

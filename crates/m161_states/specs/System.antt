@@ -129,3 +129,16 @@ next_by goal x (Some e) = accepted goal x e (result_of (fresh x.state) e)
 -- the state behind an event, where the machine accepts it
 abbrev pub next : Question → Explored → ℕ → Option Explored
 next q x n = next_by q.goal x (event_of q x n)
+
+-- the word of RAM that an event stores to, if it is made
+abbrev pub stored_of : Option Event → State → Option ℕ
+stored_of None s = None
+stored_of (Some e) s = stored_by e s
+
+abbrev pub stored_if : Option Explored → Option ℕ → Option ℕ
+stored_if None word = None
+stored_if (Some y) word = word
+
+-- the word that an event stores to, where the machine accepts it
+abbrev pub stored : Question → Explored → ℕ → Option ℕ
+stored q x n = stored_if (next q x n) (stored_of (event_of q x n) x.state)

@@ -1,7 +1,7 @@
 //! Laws of the system, in the form in which an exploration asks for them. The functions do nothing:
 //! their contracts are the laws.
 
-ghost use Rattle.m161_states.specs.Laws.{AlikeEnd, AlikeNext, AlikeStop, AlikeVerdict, ValidNext, ValidStart};
+ghost use Rattle.m161_states.specs.Laws.{AlikeEnd, AlikeNext, AlikeStop, AlikeStored, AlikeVerdict, ValidNext, ValidStart};
 
 use m161_alike::{alike_states_behave_alike, words_tell_a_view};
 
@@ -25,6 +25,15 @@ pub fn alike_next()
 /// From two valid states with one view an event that reads nothing unknown has one verdict.
 pub fn alike_verdict()
     ensures law { AlikeVerdict }
+{
+    alike_states_behave_alike();
+    words_tell_a_view();
+}
+
+/// From two valid states with one view an event that reads nothing unknown stores to the same word, or to
+/// none, or is refused in both.
+pub fn alike_stored()
+    ensures law { AlikeStored }
 {
     alike_states_behave_alike();
     words_tell_a_view();

@@ -22,7 +22,9 @@ mod laws;
 mod run_laws;
 mod verdict;
 
-pub use laws::{alike_end, alike_next, alike_stop, alike_verdict, valid_next, valid_start};
+pub use laws::{
+    alike_end, alike_next, alike_stop, alike_stored, alike_verdict, valid_next, valid_start,
+};
 pub use m161_alike::{Known, Reads};
 pub use m161_machine::Conflict;
 pub use run_laws::{

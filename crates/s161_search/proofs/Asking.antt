@@ -4,12 +4,12 @@ use Rattle.m161_audit.specs.declared.finding.AuditError.{AuditError}
 use Rattle.m161_audit.specs.declared.finding.AuditError.TheVariants as audit
 use Rattle.s161_base.proofs.Asking.{IsNoFile, asks_both, asks_none, boot_is_none, file_unread, refused}
 use Rattle.s161_base.specs.Asked.{Asks, AsksUntil, image_files, option_files}
-use Rattle.s161_base.specs.Reading.{IsOfText}
+use Rattle.s161_run.specs.Driven.{order_files}
 use Rattle.s161_base.specs.declared.fault.Fault.{Fault}
-use Rattle.s161_base.specs.declared.fault.Fault.TheVariants.{Conf, File, Image, Input, Log, LogImage, LogMachine, Memory, Never, Output, Schedule, Source, Threads, Touches, Watch, Watches, Word}
+use Rattle.s161_base.specs.declared.fault.Fault.TheVariants.{After, Conf, File, Image, Input, Log, LogImage, LogMachine, Memory, Never, Output, Schedule, Source, Threads, Touches, Watch, Watches, Word}
 use Rattle.s161_command.specs.declared.task.SearchTask.{SearchTask}
 use Rattle.s161_search.specs.Audits.{fault_of_audit}
-use Rattle.s161_search.specs.Given.{Given, IsWatchesFile, search_files}
+use Rattle.s161_search.specs.Given.{Given, search_files}
 use Rattle.s161_search.specs.helpers.Never.{IsNeverFault}
 use Rattle.s161_search.specs.helpers.Watches.{IsFaultIn}
 use Rattle.s161_search.proofs.Unaudited.{watches_failed}
@@ -17,20 +17,14 @@ use Rattle.s161_search.proofs.Unaudited.{watches_failed}
 -- The files that are asked for, and the faults that are none of a file.
 
 -- all of a search's
-pub asks_all : (task : SearchTask) (a b c d e : Option (List (List ℕ))) → Asks (image_files task.image.now) a b → Asks (option_files task.drive.keys) b c →
-    Asks (option_files task.watches) c d → Asks (option_files task.output) d e → Asks (search_files task) a e
-asks_all task a b c d e image keys watches output =
-    let last = asks_both (option_files task.output) [] d e e output (asks_none e) in
-    let more = asks_both (option_files task.watches) (flat_map option_files (task.output ∷ [])) c d e watches last in
-    asks_both (image_files task.image.now) (flat_map option_files (task.drive.keys ∷ task.watches ∷ task.output ∷ [])) a b e image
-    (asks_both (option_files task.drive.keys) (flat_map option_files (task.watches ∷ task.output ∷ [])) b c e keys more)
-
--- the file of the watches isn't read, and the rest isn't asked for
-pub watches_unread : (name : Option (Bor (List ℕ))) (files : List ℕ → Option (List ℕ)) (rest : List (List ℕ)) (a b : Option (List (List ℕ))) (fault : Fault) →
-    Asks (option_files name) a b → IsWatchesFile name files fault ⊎ (fault ≡ Memory) → AsksUntil (option_files name ++ rest) a b fault
-watches_unread None files rest a b fault asks (inl is) = absurd is
-watches_unread None files rest a b fault asks (inr is) = refused [] rest a b fault asks is
-watches_unread (Some name) files rest a b fault asks h = file_unread name (IsOfText (files name.now)) rest a b fault asks h
+pub asks_all : (task : SearchTask) (a b c d e f : Option (List (List ℕ))) → Asks (image_files task.image.now) a b → Asks (option_files task.drive.after) b c →
+    Asks (option_files task.drive.keys) c d → Asks (option_files task.watches) d e → Asks (option_files task.output) e f → Asks (search_files task) a f
+asks_all task a b c d e f image after keys watches output =
+    let last = asks_both (option_files task.output) [] e f f output (asks_none f) in
+    let more = asks_both (option_files task.watches) (flat_map option_files (task.output ∷ [])) d e f watches last in
+    let options = asks_both (option_files task.drive.after) (option_files task.drive.keys) b c d after keys in
+    let order = asks_both (image_files task.image.now) (option_files task.drive.after ++ option_files task.drive.keys) a b d image options in
+    asks_both (order_files task.image.now task.drive) (flat_map option_files (task.watches ∷ task.output ∷ [])) a d f order more
 
 -- a line of the watches
 pub line_is_none : (text : Option (List ℕ)) (fault : Fault) → IsFaultIn text fault → IsNoFile fault
@@ -53,6 +47,7 @@ never_is_none task words given LogImage h = tt
 never_is_none task words given (Watches n) h = tt
 never_is_none task words given (Watch k) h = tt
 never_is_none task words given (Never word) h = tt
+never_is_none task words given (After k why) h = tt
 never_is_none task words given (Touches word) h = tt
 never_is_none task words given Conf h = tt
 never_is_none task words given (Image e) h = tt

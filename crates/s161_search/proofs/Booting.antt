@@ -6,9 +6,8 @@ use Rattle.m161_machine.specs.declared.conf.BootError.{BootError}
 use Rattle.m161_machine.specs.declared.conf.Conf.{Conf}
 use Rattle.m161_machine.specs.History.{IsBootState, boot_fault, boot_state}
 use Rattle.m161_machine.specs.State.{State}
-use Rattle.s161_base.specs.Sizes.{conf_of}
-use Rattle.s161_command.specs.declared.task.SearchTask.{SearchTask}
 use Rattle.s161_search.specs.Given.{Given}
+use Rattle.s161_search.specs.helpers.Begun.{BeginsAt}
 use Rattle.s161_search.specs.helpers.Begun.{BeginsAt}
 
 -- States at boot.
@@ -34,5 +33,5 @@ begun file conf s (Some first) h = absurd h
 begun file conf s None h = h
 
 -- the state at boot
-pub begins : (task : SearchTask) (given : Given) (s : State) → BeginsAt task given s → IsBootState given.file (conf_of task.size) s
-begins task given s h = begun given.file (conf_of task.size) s (boot_fault given.file (conf_of task.size)) h
+pub begins : (given : Given) (s : State) → BeginsAt given s → IsBootState given.file given.conf s
+begins given s h = begun given.file given.conf s (boot_fault given.file given.conf) h

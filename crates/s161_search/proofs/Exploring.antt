@@ -13,16 +13,16 @@ use Rattle.s161_search.proofs.Failing.{read_with}
 
 -- What an exploration comes to.
 
-pub explored_so : (task : SearchTask) (limit : ℕ) (never : List (List ℕ)) (files : List ℕ → Option (List ℕ)) (image : Option (List ℕ)) (given : Given)
-    (r : Result Finished Fault) → IsRead task files image given → IfOk r (λ done. PrintsExploredFor task limit never given done.text.items done.status) →
-    IfOk r (λ done. IsExploredBy task limit never files image done.text.items done.status)
-explored_so task limit never files image given (Ok done) is h =
+pub explored_so : (task : SearchTask) (limit : ℕ) (never : List (List ℕ)) (files : List ℕ → Option (List ℕ)) (image : Option (List ℕ)) (given : Given) (told : List ℕ)
+    (r : Result Finished Fault) → IsRead task files image given → IfOk r (λ done. PrintsExploredFor task limit never given done.text.items told done.status) →
+    IfOk r (λ done. IsExploredBy task limit never files image done.text.items told done.status)
+explored_so task limit never files image given told (Ok done) is h =
     (with_addresses given h.0, (read_with task files image given h.0 is, h.1), h.2)
-explored_so task limit never files image given (Err fault) is h = tt
+explored_so task limit never files image given told (Err fault) is h = tt
 
-pub explored_for : (task : SearchTask) (limit : ℕ) (words : List (List ℕ)) (given : Given) (inputs : Inputs) (r : Result Finished Fault) → HasNever task words given inputs →
-    IfOk r (λ done. PrintsExplored task limit (given_of inputs) done.text.items done.status) →
-    IfOk r (λ done. PrintsExploredFor task limit words given done.text.items done.status)
-explored_for task limit words given inputs (Ok done) has h =
-    (inputs.never.items, has.1, subst (λ g. PrintsExplored task limit g done.text.items done.status) has.0 h)
-explored_for task limit words given inputs (Err fault) has h = tt
+pub explored_for : (task : SearchTask) (limit : ℕ) (words : List (List ℕ)) (given : Given) (inputs : Inputs) (told : List ℕ) (r : Result Finished Fault) → HasNever task words given inputs →
+    IfOk r (λ done. PrintsExplored limit (given_of inputs) done.text.items told done.status) →
+    IfOk r (λ done. PrintsExploredFor task limit words given done.text.items told done.status)
+explored_for task limit words given inputs told (Ok done) has h =
+    (inputs.never.items, has.1, subst (λ g. PrintsExplored limit g done.text.items told done.status) has.0 h)
+explored_for task limit words given inputs told (Err fault) has h = tt

@@ -11,140 +11,193 @@ use Rattle.m161_judge.specs.declared.verdict.Judged.{Judged}
 use Rattle.m161_judge.specs.Judge.{BootsState, IsUnjudged, Judges}
 use Rattle.m161_machine.specs.declared.event.Event.{Event}
 use Rattle.m161_machine.specs.State.{State}
-use Rattle.m161_judge.specs.Run.{Runs}
-use Rattle.m161_drive.specs.Policy.{Rules}
+use Rattle.m161_machine.specs.declared.event.Refusal.{Refusal}
+use Rattle.m161_machine.specs.declared.event.Refusal.TheVariants as refusal
+use Rattle.s161_base.specs.Faults.{BootsIn, fault_of_first}
+use Rattle.s161_run.specs.Behind.{RefusesFirst}
 use Rattle.m161_machine.specs.declared.conf.BootError.{BootError}
 use Rattle.m161_machine.specs.declared.conf.Conf.{Conf as ConfValue}
 use Rattle.m161_machine.specs.History.{boot_fault}
 use Rattle.s161_search.specs.Audits.{fault_of_audit}
 use Rattle.s161_base.proofs.Failing.{boot_fails}
 use Rattle.s161_base.specs.Faults.{fault_of_boot}
-use Rattle.s161_base.specs.Sizes.{conf_of}
 use Rattle.s161_base.specs.declared.fault.Fault.{Fault}
-use Rattle.s161_base.specs.declared.fault.Fault.TheVariants.{Conf, File, Image, Input, Log, LogImage, LogMachine, Memory, Never, Output, Schedule, Source, Threads, Touches, Watch, Watches, Word}
+use Rattle.s161_base.specs.declared.fault.Fault.TheVariants.{After, Conf, File, Image, Input, Log, LogImage, LogMachine, Memory, Never, Output, Schedule, Source, Threads, Touches, Watch, Watches, Word}
 use Rattle.s161_command.specs.declared.task.SearchTask.{SearchTask}
 use Rattle.s161_base.specs.declared.finished.Finished.{Finished}
 use Rattle.s161_search.specs.Given.{Given, IsRead, criteria_of}
 use Rattle.s161_search.specs.Never.{AreAddresses, symbols_in}
 use Rattle.s161_search.specs.declared.inputs.Inputs.{Inputs}
 use Rattle.s161_search.specs.helpers.Inputs.{given_of}
+use Rattle.s161_search.specs.helpers.Begun.{IsBareFault}
 use Rattle.s161_search.specs.helpers.Never.{HasNever, IsNeverFault, IsNoAddress, IsWordFault, PrintsFor, with_addresses}
 use Rattle.s161_search.specs.Searches.{IsSearchFault, IsSearched, Prints}
-use Rattle.s161_search.specs.Seeds.{IsRunFault}
+use Rattle.s161_search.specs.Runs.{IsRunFault}
+
 
 -- Why a search ends early.
 
 -- a boot's answer
-boot_failed : (task : SearchTask) (given : Given) (x : BootError) → (boot_fault given.file (conf_of task.size) ≡ Some x) ⊎ (x ≡ BootError.NoMemory) →
-    IsRunFault task given (fault_of_boot x)
-boot_failed task given x h =
-    boot_fails (IsRunFault task given) (Some given.file) (conf_of task.size) given.file x refl (λ outside. outside)
-    (λ e has. subst (λ file. boot_fault file (conf_of task.size) ≡ Some (BootError.Load e)) has.1 has.2) tt h
-
--- a run that isn't made
-pub run_failed : (task : SearchTask) (given : Given) (rules : Rules) (n : ℕ) (fault : Option BootError) (e : AuditError) →
-    boot_fault given.file (conf_of task.size) ≡ fault → Runs given.file (conf_of task.size) fault rules n (criteria_of given) (Err e) →
-    IsRunFault task given (fault_of_audit e)
-run_failed task given rules n (Some first) (audit.Boot x) has h =
-    let same : first ≡ x = cc in
-    boot_failed task given x (inl (has ∙ ap (λ e. Some e) same))
-run_failed task given rules n (Some first) (audit.BadWatch k) has h = absurd cc
-run_failed task given rules n None (audit.Boot x) has h = boot_failed task given x (inr h)
-run_failed task given rules n None (audit.BadWatch k) has h = (has, h.0, h.1)
+boot_failed : (given : Given) (x : BootError) → (boot_fault given.file given.conf ≡ Some x) ⊎ (x ≡ BootError.NoMemory) →
+    IsBareFault given (fault_of_boot x)
+boot_failed given x h =
+    boot_fails (IsBareFault given) (Some given.file) given.conf given.file x refl (λ outside. outside)
+    (λ e has. subst (λ file. boot_fault file given.conf ≡ Some (BootError.Load e)) has.1 has.2) tt h
 
 -- a machine that isn't booted
-pub unbooted : (task : SearchTask) (given : Given) (fault : Option BootError) (e : AuditError) →
-    boot_fault given.file (conf_of task.size) ≡ fault → BootsState given.file (conf_of task.size) fault (Err e) → IsRunFault task given (fault_of_audit e)
-unbooted task given (Some first) (audit.Boot x) has h =
+pub unbooted : (given : Given) (fault : Option BootError) (e : AuditError) →
+    boot_fault given.file given.conf ≡ fault → BootsState given.file given.conf fault (Err e) → IsBareFault given (fault_of_audit e)
+unbooted given (Some first) (audit.Boot x) has h =
     let same : first ≡ x = cc in
-    boot_failed task given x (inl (has ∙ ap (λ e. Some e) same))
-unbooted task given (Some first) (audit.BadWatch k) has h = absurd cc
-unbooted task given None (audit.Boot x) has h = let same : x ≡ BootError.NoMemory = cc in boot_failed task given x (inr same)
-unbooted task given None (audit.BadWatch k) has h = absurd cc
+    boot_failed given x (inl (has ∙ ap (λ e. Some e) same))
+unbooted given (Some first) (audit.BadWatch k) has h = absurd cc
+unbooted given None (audit.Boot x) has h = let same : x ≡ BootError.NoMemory = cc in boot_failed given x (inr same)
+unbooted given None (audit.BadWatch k) has h = absurd cc
 
 -- a run of which nothing can be kept
-pub unkept : (task : SearchTask) (given : Given) (s : State) (fault : Option BootError) (watches : List WatchOf) (e : AuditError) →
-    watches ≡ given.watches → boot_fault given.file (conf_of task.size) ≡ fault → BootsState given.file (conf_of task.size) fault (Ok s) →
-    IsUnjudged s.conf watches e → IsRunFault task given (fault_of_audit e)
-unkept task given s (Some first) watches e same has boots h = absurd boots
-unkept task given s None watches (audit.Boot x) same has boots h = boot_failed task given x (inr h)
-unkept task given s None watches (audit.BadWatch k) same has boots h =
-    let conf : s.conf ≡ conf_of task.size = ap (λ (x : State). x.conf) boots.state_is ∙ boots.conf_is in
-    let bad = subst (λ ws. IsUnjudged (conf_of task.size) ws (audit.BadWatch k)) same
+pub unkept : (given : Given) (s : State) (fault : Option BootError) (watches : List WatchOf) (e : AuditError) →
+    watches ≡ given.watches → boot_fault given.file given.conf ≡ fault → BootsState given.file given.conf fault (Ok s) →
+    IsUnjudged s.conf watches e → IsBareFault given (fault_of_audit e)
+unkept given s (Some first) watches e same has boots h = absurd boots
+unkept given s None watches (audit.Boot x) same has boots h = boot_failed given x (inr h)
+unkept given s None watches (audit.BadWatch k) same has boots h =
+    let conf : s.conf ≡ given.conf = ap (λ (x : State). x.conf) boots.state_is ∙ boots.conf_is in
+    let bad = subst (λ ws. IsUnjudged given.conf ws (audit.BadWatch k)) same
     (subst (λ (c : ConfValue). IsUnjudged c watches (audit.BadWatch k)) conf h) in
     (has, bad.0, bad.1)
 
 -- of what was read alone
-pub judge_failed : (task : SearchTask) (given : Given) (events : List Event) (fault : Option BootError) (e : AuditError) →
-    boot_fault given.file (conf_of task.size) ≡ fault → Judges given.file (conf_of task.size) fault events (criteria_of given) (Err e) →
-    IsRunFault task given (fault_of_audit e)
-judge_failed task given events (Some first) (audit.Boot x) has h =
+pub judge_failed : (given : Given) (events : List Event) (fault : Option BootError) (e : AuditError) →
+    boot_fault given.file given.conf ≡ fault → Judges given.file given.conf fault events (criteria_of given) (Err e) →
+    IsBareFault given (fault_of_audit e)
+judge_failed given events (Some first) (audit.Boot x) has h =
     let same : first ≡ x = cc in
-    boot_failed task given x (inl (has ∙ ap (λ e. Some e) same))
-judge_failed task given events (Some first) (audit.BadWatch k) has h = absurd cc
-judge_failed task given events None (audit.Boot x) has h = boot_failed task given x (inr h)
-judge_failed task given events None (audit.BadWatch k) has h = (has, h.0, h.1)
+    boot_failed given x (inl (has ∙ ap (λ e. Some e) same))
+judge_failed given events (Some first) (audit.BadWatch k) has h = absurd cc
+judge_failed given events None (audit.Boot x) has h = boot_failed given x (inr h)
+judge_failed given events None (audit.BadWatch k) has h = (has, h.0, h.1)
 
-pub judged_good : (task : SearchTask) (given : Given) (events : List Event) (fault : Option BootError) (judged : Option Judged) →
-    Judges given.file (conf_of task.size) fault events (criteria_of given) (Ok judged) → (k : ℕ) → AreGood task.size.ram given.watches k
-judged_good task given events (Some first) judged h = absurd cc
-judged_good task given events None judged h = h.0
+pub judged_good : (given : Given) (events : List Event) (fault : Option BootError) (judged : Option Judged) →
+    Judges given.file given.conf fault events (criteria_of given) (Ok judged) → (k : ℕ) → AreGood given.conf.ram given.watches k
+judged_good given events (Some first) judged h = absurd cc
+judged_good given events None judged h = h.0
 
 -- a fault of a run is one of the words too
-pub run_is_never : (task : SearchTask) (words : List (List ℕ)) (given : Given) (fault : Fault) → IsRunFault task given fault → IsNeverFault task words given fault
-run_is_never task words given Conf h = h
-run_is_never task words given (Image e) h = h
-run_is_never task words given (Watch k) h = h
-run_is_never task words given Memory h = tt
-run_is_never task words given (Never word) h = absurd h
-run_is_never task words given (Touches word) h = absurd h
-run_is_never task words given (File name why) h = absurd h
-run_is_never task words given (Schedule n) h = absurd h
-run_is_never task words given (Log n) h = absurd h
-run_is_never task words given (Watches n) h = absurd h
-run_is_never task words given (Threads cause) h = absurd h
-run_is_never task words given (Input why) h = absurd h
-run_is_never task words given Word h = absurd h
-run_is_never task words given LogMachine h = absurd h
-run_is_never task words given LogImage h = absurd h
-run_is_never task words given Output h = absurd h
-run_is_never task words given (Source e) h = absurd h
+pub run_is_never : (task : SearchTask) (words : List (List ℕ)) (given : Given) (addresses : List ℕ) (fault : Fault) → AreAddresses (symbols_in task given) words addresses →
+    IsRunFault given fault → IsNeverFault task words given fault
+run_is_never task words given addresses Conf are h = h
+run_is_never task words given addresses (Image e) are h = h
+run_is_never task words given addresses (Watch k) are h = h
+run_is_never task words given addresses (After k why) are h = (addresses, are, h)
+run_is_never task words given addresses Memory are h = tt
+run_is_never task words given addresses (Never word) are h = absurd h
+run_is_never task words given addresses (Touches word) are h = absurd h
+run_is_never task words given addresses (File name why) are h = absurd h
+run_is_never task words given addresses (Schedule n) are h = absurd h
+run_is_never task words given addresses (Log n) are h = absurd h
+run_is_never task words given addresses (Watches n) are h = absurd h
+run_is_never task words given addresses (Threads cause) are h = absurd h
+run_is_never task words given addresses (Input why) are h = absurd h
+run_is_never task words given addresses Word are h = absurd h
+run_is_never task words given addresses LogMachine are h = absurd h
+run_is_never task words given addresses LogImage are h = absurd h
+run_is_never task words given addresses Output are h = absurd h
+run_is_never task words given addresses (Source e) are h = absurd h
 
 -- with other addresses a run has the same faults
+same_fault : (given : Given) (addresses : List ℕ) (fault : Fault) → IsRunFault (with_addresses given addresses) fault → IsRunFault given fault
+same_fault given addresses Conf h = h
+same_fault given addresses (Image e) h = h
+same_fault given addresses (Watch k) h = h
+same_fault given addresses (After k why) h = h
+same_fault given addresses Memory h = h
+same_fault given addresses (Never word) h = absurd h
+same_fault given addresses (Touches word) h = absurd h
+same_fault given addresses (File name why) h = absurd h
+same_fault given addresses (Schedule n) h = absurd h
+same_fault given addresses (Log n) h = absurd h
+same_fault given addresses (Watches n) h = absurd h
+same_fault given addresses (Threads cause) h = absurd h
+same_fault given addresses (Input why) h = absurd h
+same_fault given addresses Word h = absurd h
+same_fault given addresses LogMachine h = absurd h
+same_fault given addresses LogImage h = absurd h
+same_fault given addresses Output h = absurd h
+same_fault given addresses (Source e) h = absurd h
+
 pub other_fault : (task : SearchTask) (words : List (List ℕ)) (given other : Given) (addresses : List ℕ) (fault : Fault) → other ≡ with_addresses given addresses →
-    IsRunFault task other fault → IsNeverFault task words given fault
-other_fault task words given other addresses fault same h =
-    run_is_never task words given fault (as_before fault (subst (λ g. IsRunFault task g fault) same h))
-  where
-    as_before : (f : Fault) → IsRunFault task (with_addresses given addresses) f → IsRunFault task given f
-    as_before Conf x = x
-    as_before (Image e) x = x
-    as_before (Watch k) x = x
-    as_before Memory x = x
-    as_before (Never word) x = absurd x
-    as_before (Touches word) x = absurd x
-    as_before (File name why) x = absurd x
-    as_before (Schedule n) x = absurd x
-    as_before (Log n) x = absurd x
-    as_before (Watches n) x = absurd x
-    as_before (Threads cause) x = absurd x
-    as_before (Input why) x = absurd x
-    as_before Word x = absurd x
-    as_before LogMachine x = absurd x
-    as_before LogImage x = absurd x
-    as_before Output x = absurd x
-    as_before (Source e) x = absurd x
+    AreAddresses (symbols_in task given) words addresses → IsRunFault other fault → IsNeverFault task words given fault
+other_fault task words given other addresses fault same are h =
+    run_is_never task words given addresses fault are (same_fault given addresses fault (subst (λ g. IsRunFault g fault) same h))
+
+-- before the words are looked at, the same, but for an event that comes first
+
+pub bare_is_run : (given : Given) (fault : Fault) → IsBareFault given fault → IsRunFault given fault
+bare_is_run given Conf h = h
+bare_is_run given (Image e) h = h
+bare_is_run given (Watch k) h = h
+bare_is_run given Memory h = h
+bare_is_run given (After k why) h = absurd h
+bare_is_run given (Never word) h = absurd h
+bare_is_run given (Touches word) h = absurd h
+bare_is_run given (File name why) h = absurd h
+bare_is_run given (Schedule n) h = absurd h
+bare_is_run given (Log n) h = absurd h
+bare_is_run given (Watches n) h = absurd h
+bare_is_run given (Threads cause) h = absurd h
+bare_is_run given (Input why) h = absurd h
+bare_is_run given Word h = absurd h
+bare_is_run given LogMachine h = absurd h
+bare_is_run given LogImage h = absurd h
+bare_is_run given Output h = absurd h
+bare_is_run given (Source e) h = absurd h
+
+pub bare_is_never : (task : SearchTask) (words : List (List ℕ)) (given : Given) (fault : Fault) → IsBareFault given fault → IsNeverFault task words given fault
+bare_is_never task words given Conf h = h
+bare_is_never task words given (Image e) h = h
+bare_is_never task words given (Watch k) h = h
+bare_is_never task words given Memory h = h
+bare_is_never task words given (After k why) h = absurd h
+bare_is_never task words given (Never word) h = absurd h
+bare_is_never task words given (Touches word) h = absurd h
+bare_is_never task words given (File name why) h = absurd h
+bare_is_never task words given (Schedule n) h = absurd h
+bare_is_never task words given (Log n) h = absurd h
+bare_is_never task words given (Watches n) h = absurd h
+bare_is_never task words given (Threads cause) h = absurd h
+bare_is_never task words given (Input why) h = absurd h
+bare_is_never task words given Word h = absurd h
+bare_is_never task words given LogMachine h = absurd h
+bare_is_never task words given LogImage h = absurd h
+bare_is_never task words given Output h = absurd h
+bare_is_never task words given (Source e) h = absurd h
 
 -- the image can be booted
-pub boots_none : (task : SearchTask) (given : Given) (s : State) (fault : Option BootError) → boot_fault given.file (conf_of task.size) ≡ fault →
-    BootsState given.file (conf_of task.size) fault (Ok s) → boot_fault given.file (conf_of task.size) ≡ None
-boots_none task given s (Some first) has h = absurd h
-boots_none task given s None has h = has
+pub boots_none : (given : Given) (s : State) (fault : Option BootError) → boot_fault given.file given.conf ≡ fault →
+    BootsState given.file given.conf fault (Ok s) → boot_fault given.file given.conf ≡ None
+boots_none given s (Some first) has h = absurd h
+boots_none given s None has h = has
+
+-- an event of the first ones is refused
+refused_first : (given : Given) (s : State) (k : ℕ) (why : Refusal) → ((j : ℕ) → AreGood given.conf.ram given.watches j) → BootsIn given.file given.conf s →
+    RefusesFirst s given.first k why → IsRunFault given (fault_of_first k why)
+refused_first given s k refusal.NoMemory good boots h = tt
+refused_first given s k refusal.BadProcessor good boots h = (good, record { booted = s; boots = boots; refuses = h; not_memory = λ same. absurd (cc) })
+refused_first given s k refusal.Off good boots h = (good, record { booted = s; boots = boots; refuses = h; not_memory = λ same. absurd (cc) })
+refused_first given s k refusal.Worn good boots h = (good, record { booted = s; boots = boots; refuses = h; not_memory = λ same. absurd (cc) })
+refused_first given s k refusal.KeyFull good boots h = (good, record { booted = s; boots = boots; refuses = h; not_memory = λ same. absurd (cc) })
+refused_first given s k refusal.NothingSent good boots h = (good, record { booted = s; boots = boots; refuses = h; not_memory = λ same. absurd (cc) })
+
+pub first_refused : (given : Given) (s : State) (fault : Fault) → ((j : ℕ) → AreGood given.conf.ram given.watches j) → BootsIn given.file given.conf s →
+    (fault ≡ Memory) ⊎ ((k : ℕ) × (why : Refusal) × RefusesFirst s given.first k why × (fault ≡ fault_of_first k why)) → IsRunFault given fault
+first_refused given s fault good boots (inl is) = subst (IsRunFault given) (sym is) tt
+first_refused given s fault good boots (inr (k, why, h, is)) = subst (IsRunFault given) (sym is) (refused_first given s k why good boots h)
 
 -- a word stands for no address
-pub word_failed : (task : SearchTask) (words : List (List ℕ)) (given : Given) (fault : Fault) → boot_fault given.file (conf_of task.size) ≡ None →
-    ((k : ℕ) → AreGood task.size.ram given.watches k) → IsWordFault (symbols_in task given) words fault → IsNeverFault task words given fault
+pub word_failed : (task : SearchTask) (words : List (List ℕ)) (given : Given) (fault : Fault) → boot_fault given.file given.conf ≡ None →
+    ((k : ℕ) → AreGood given.conf.ram given.watches k) → IsWordFault (symbols_in task given) words fault → IsNeverFault task words given fault
 word_failed task words given (Never word) boots good h = record { is_unknown = h; boots = boots; good = good }
+word_failed task words given (After k why) boots good h = absurd h
 word_failed task words given (Touches word) boots good h = absurd h
 word_failed task words given Memory boots good h = tt
 word_failed task words given Conf boots good h = absurd h
@@ -162,6 +215,16 @@ word_failed task words given LogImage boots good h = absurd h
 word_failed task words given Output boots good h = absurd h
 word_failed task words given (Source e) boots good h = absurd h
 
+-- what was read, with other addresses
+pub read_with : (task : SearchTask) (files : List ℕ → Option (List ℕ)) (image : Option (List ℕ)) (given : Given) (addresses : List ℕ) →
+    IsRead task files image given → IsRead task files image (with_addresses given addresses)
+read_with task files image given addresses is = record {
+  are_inputs = is.are_inputs;
+  are_all = is.are_all;
+  are_watches = is.are_watches;
+  is_output = is.is_output;
+}
+
 -- so is the search
 pub search_failed : (task : SearchTask) (never : List (List ℕ)) (files : List ℕ → Option (List ℕ)) (image : Option (List ℕ)) (given : Given) (fault : Fault) →
     IsRead task files image given → IsNeverFault task never given fault → IsSearchFault task never files image fault
@@ -169,6 +232,7 @@ search_failed task never files image given Conf is h = (given, is, h)
 search_failed task never files image given (Image e) is h = (given, is, h)
 search_failed task never files image given (Watch k) is h = (given, is, h)
 search_failed task never files image given (Never word) is h = (given, is, h)
+search_failed task never files image given (After k why) is h = (with_addresses given h.0, (read_with task files image given h.0 is, h.1), h.2)
 search_failed task never files image given (Touches word) is h = absurd h
 search_failed task never files image given Memory is h = tt
 search_failed task never files image given (File name why) is h = absurd h
@@ -182,16 +246,6 @@ search_failed task never files image given LogMachine is h = absurd h
 search_failed task never files image given LogImage is h = absurd h
 search_failed task never files image given Output is h = absurd h
 search_failed task never files image given (Source e) is h = absurd h
-
--- what was read, with other addresses
-pub read_with : (task : SearchTask) (files : List ℕ → Option (List ℕ)) (image : Option (List ℕ)) (given : Given) (addresses : List ℕ) →
-    IsRead task files image given → IsRead task files image (with_addresses given addresses)
-read_with task files image given addresses is = record {
-  is_file = is.is_file;
-  are_keys = is.are_keys;
-  are_watches = is.are_watches;
-  is_output = is.is_output;
-}
 
 pub searched_so : (task : SearchTask) (never : List (List ℕ)) (files : List ℕ → Option (List ℕ)) (image : Option (List ℕ)) (given : Given) (r : Result Finished Fault) →
     IsRead task files image given → IfOk r (λ done. PrintsFor task never given done.text.items done.status) →
@@ -215,10 +269,10 @@ printed_for task words given inputs (Ok done) has h =
 printed_for task words given inputs (Err fault) has h = tt
 
 pub failed_for : (task : SearchTask) (words : List (List ℕ)) (given : Given) (inputs : Inputs) (r : Result Finished Fault) → HasNever task words given inputs →
-    IfErr r (IsRunFault task (given_of inputs)) → IfErr r (IsNeverFault task words given)
+    IfErr r (IsRunFault (given_of inputs)) → IfErr r (IsNeverFault task words given)
 failed_for task words given inputs (Ok done) has h = tt
 failed_for task words given inputs (Err fault) has h =
-    other_fault task words given (given_of inputs) inputs.never.items fault has.0 h
+    other_fault task words given (given_of inputs) inputs.never.items fault has.0 has.1 h
 
 -- the addresses of one word more
 pub addresses_more : (symbols : List (List ℕ × ℕ)) (words : List (List ℕ)) (i : ℕ) (addresses : List ℕ) (word : List ℕ) (address : ℕ) →
@@ -270,6 +324,7 @@ word_unknown symbols words i d addresses (Never other) less before h = record {
   before = before;
   unknown = λ address is. h.1 address (subst (IsPlace symbols address) h.0 is);
 }
+word_unknown symbols words i d addresses (After k why) less before h = absurd h
 word_unknown symbols words i d addresses (Touches other) less before h = absurd h
 word_unknown symbols words i d addresses Conf less before h = absurd h
 word_unknown symbols words i d addresses (Image e) less before h = absurd h

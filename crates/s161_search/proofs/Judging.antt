@@ -1,4 +1,4 @@
-use Rattle.std.proofs.Common.{◌≡◌, ◌⊎◌, ◌∙◌, ℕ, ◌<◌, arith, Bool, true, false, List, [], ◌∷◌, take, Option, None, Some, Ok, Err, ap, inl, inr, refl, sym, subst}
+use Rattle.std.proofs.Common.{◌≡◌, ◌⊎◌, ◌∙◌, ℕ, ◌<◌, arith, Bool, true, false, List, [], ◌∷◌, ◌++◌, length, take, Option, None, Some, Ok, Err, ap, inl, inr, refl, sym, subst}
 use Rattle.std.specs.Prelude.{◌==◌, Result, IfErr, IfOk, option_map}
 use Rattle.std.specs.List.{range_with_len}
 use Rattle.std.proofs.lemmas.Bool.{eqb-true}
@@ -6,7 +6,6 @@ use Rattle.m161_judge.specs.declared.run.JudgedRun.{JudgedRun}
 use Rattle.m161_judge.specs.declared.verdict.Judged.{Judged}
 use Rattle.m161_judge.specs.Judge.{BootsState}
 use Rattle.m161_judge.specs.Laws.{CutKeepsVerdict, IsOneVerdict}
-use Rattle.m161_judge.specs.Run.{IsRun, Runs, with_keys_of}
 use Rattle.m161_audit.specs.declared.finding.AuditError.{AuditError}
 use Rattle.m161_jobs.specs.Answers.{IsAnswer}
 use Rattle.m161_jobs.specs.Trials.{AreRight, IsJudged as IsJudgedTrial}
@@ -36,35 +35,26 @@ use Rattle.m161_shorten.specs.declared.judged.Judgement.{Judgement}
 use Rattle.m161_shorten.specs.Verdicts.{AreNeeded}
 use Rattle.m161_shorten.specs.Passes.{Shortens}
 use Rattle.m161_shorten.proofs.Alike.{shortens_by}
-use Rattle.s161_base.specs.Sizes.{conf_of}
 use Rattle.s161_command.specs.declared.task.SearchTask.{SearchTask}
-use Rattle.s161_search.specs.Delays.{IsRunOf}
+use Rattle.s161_search.specs.Runs.{IsRunOf}
 use Rattle.s161_search.specs.Given.{Given, criteria_of}
-use Rattle.s161_search.specs.Seeds.{IsRightAt, IsRunAt, IsRunFault, seed_at, with_seed}
+use Rattle.s161_search.specs.Runs.{IsRunFault}
+use Rattle.s161_search.specs.Seeds.{IsRightAt, IsRunAt, seed_at, with_seed}
 use Rattle.s161_search.specs.declared.orders.WrongRun.{WrongRun}
-use Rattle.s161_search.specs.Searches.{ArePrinted, HasKind, IsJudgedAt, is_whole, kind_of}
+use Rattle.s161_search.specs.Searches.{ArePrinted, HasKind, IsJudgedAt, is_whole, kind_behind}
+use Rattle.s161_search.specs.declared.start.Start.{Start}
 use Rattle.s161_search.specs.declared.found.Printed.{Printed}
 use Rattle.s161_search.specs.declared.told.SearchVerdict.TheVariants as verdicts
 use Rattle.s161_search.specs.Told.{IsRunTold, told_of}
 use Rattle.s161_search.specs.helpers.Begun.{BeginsAt, HasKindFrom}
-use Rattle.s161_search.specs.helpers.Delayed.{IsFaultFrom, IsRightFrom, IsRunFrom, IsSeedRightFrom, IsSeedWrongFrom, IsTested, IsWrongFrom}
+use Rattle.s161_search.specs.helpers.Delayed.{BeginsBehind, IsRightFrom, IsRunFrom, IsSeedRightFrom, IsSeedWrongFrom, IsTested, IsWrongFrom}
 use Rattle.s161_search.specs.helpers.Tried.{ArePrintedWith, IsTried}
 use Rattle.s161_search.specs.helpers.Telling.{Begins, TellsRun}
+use Rattle.s161_search.proofs.Behind.{parts_of, take_needed}
 use Rattle.s161_search.proofs.Booting.{booted_as_one}
 use Rattle.s161_search.proofs.Telling.{run_told}
 
 -- Verdicts of runs and of lists of events.
-
--- a run by a policy, of what was read
-pub as_given : (task : SearchTask) (given : Given) (drive : Drive) (policy : Rules) (goal : Criteria) (result : Result JudgedRun AuditError) →
-    policy ≡ rules_of drive given.keys → goal ≡ criteria_of given →
-    Runs given.file (conf_of task.size) (boot_fault given.file (conf_of task.size)) policy task.drive.events (with_keys_of policy goal) result →
-    Runs given.file (conf_of task.size) (boot_fault given.file (conf_of task.size)) (rules_of drive given.keys) task.drive.events (criteria_of given) result
-as_given task given drive policy goal result rules_is goal_is h =
-    let conf = conf_of task.size in
-    let n = task.drive.events in
-    subst (λ r. Runs given.file conf (boot_fault given.file conf) r n (with_keys_of r (criteria_of given)) result) rules_is
-    (subst (λ g. Runs given.file conf (boot_fault given.file conf) policy n (with_keys_of policy g) result) goal_is h)
 
 -- a boot of what was read
 pub boots_as : (file same : List ℕ) (conf equal : Conf) (result : Result State AuditError) → file ≡ same → conf ≡ equal →
@@ -72,51 +62,49 @@ pub boots_as : (file same : List ℕ) (conf equal : Conf) (result : Result State
 boots_as file same conf equal result file_is conf_is h =
     subst (λ f. BootsState f equal (boot_fault f equal) result) file_is (subst (λ x. BootsState file x (boot_fault file x) result) conf_is h)
 
--- a run that was made
-pub run_made : (task : SearchTask) (given : Given) (rules : Rules) (fault : Option BootError) (run : JudgedRun) →
-    Runs given.file (conf_of task.size) fault rules task.drive.events (criteria_of given) (Ok run) →
-    IsRun given.file (conf_of task.size) rules task.drive.events (criteria_of given) run
-run_made task given rules (Some first) run h = absurd cc
-run_made task given rules None run h = h
-
 -- a list has one verdict
-pub one_judged : (task : SearchTask) (given : Given) (events : List Event) (a b : Option Judged) →
+pub one_judged : (given : Given) (events : List Event) (a b : Option Judged) →
     ((goal : Criteria) (s : State) (es : List Event) → IsOneVerdict goal s es) →
-    IsJudgedAt task given events a → IsJudgedAt task given events b → a ≡ b
-one_judged task given events a b one h k =
-    let same = booted_as_one given.file (conf_of task.size) h.0 k.0 h.1 k.1 in
+    IsJudgedAt given events a → IsJudgedAt given events b → a ≡ b
+one_judged given events a b one h k =
+    let same = booted_as_one given.file given.conf h.0 k.0 h.1 k.1 in
     one (criteria_of given) k.0 events a b
     (subst (λ s. IsJudged (criteria_of given) s events a) same h.2) k.2
 
-cut_judged : (task : SearchTask) (given : Given) (events : List Event) (judged : Judged) →
+cut_judged : (given : Given) (events : List Event) (judged : Judged) →
     ((goal : Criteria) (s : State) (es : List Event) (j : Judged) → CutKeepsVerdict goal s es j) →
-    IsJudgedAt task given events (Some judged) → IsJudgedAt task given (take judged.events events) (Some judged)
-cut_judged task given events judged cut h = (h.0, h.1, cut (criteria_of given) h.0 events judged h.2)
+    IsJudgedAt given events (Some judged) → IsJudgedAt given (take judged.events events) (Some judged)
+cut_judged given events judged cut h = (h.0, h.1, cut (criteria_of given) h.0 events judged h.2)
 
 -- a verdict of a kind, on what was cut behind it
-abbrev pub HasSuch : SearchTask → Given → List Event → ℕ → Type 0
-HasSuch task given events kind =
-    (final : Judged) × IsJudgedAt task given events (Some final) × (rank final.verdict ≡ kind)
+abbrev pub HasSuch : Given → List Event → ℕ → Type 0
+HasSuch given events kind = (final : Judged) × IsJudgedAt given events (Some final) × (rank final.verdict ≡ kind)
 
-such : (task : SearchTask) (given : Given) (es : List Event) (kind needs : ℕ) (judged : Option Judged) →
-    ((goal : Criteria) (s : State) (xs : List Event) (j : Judged) → CutKeepsVerdict goal s xs j) → IsJudgedAt task given es judged →
-    Some (record { kind = kind; needs = needs }) ≡ option_map kind_of judged → HasSuch task given (take needs es) kind
-such task given es kind needs None cut h is = absurd cc
-such task given es kind needs (Some judged) cut h is =
-    let same : kind_of judged ≡ record { kind = kind; needs = needs } = cc in
-    let as_many : judged.events ≡ needs = ap (λ (k : Judgement ℕ). k.needs) same in
-    (judged, subst (λ n. IsJudgedAt task given (take n es) (Some judged)) as_many (cut_judged task given es judged cut h), ap (λ (k : Judgement ℕ). k.kind) same)
+such : (given : Given) (first es : List Event) (kind needs : ℕ) (judged : Option Judged) →
+    ((goal : Criteria) (s : State) (xs : List Event) (j : Judged) → CutKeepsVerdict goal s xs j) → IsJudgedAt given (first ++ es) judged →
+    Some (record { kind = kind; needs = needs }) ≡ kind_behind (length first) judged → HasSuch given (first ++ take needs es) kind
+such given first es kind needs None cut h is = absurd cc
+such given first es kind needs (Some judged) cut h is =
+    let parts = parts_of (length first) (rank judged.verdict) judged.events (record { kind = kind; needs = needs }) is in
+    let there : first ++ take needs es ≡ take judged.events (first ++ es) =
+    ap (λ n. first ++ take n es) parts.needs_is ∙ take_needed first es judged.events parts.within in (
+      judged,
+      subst (λ xs. IsJudgedAt given xs (Some judged)) (sym there) (cut_judged given (first ++ es) judged cut h),
+      sym parts.kind_is,
+    )
 
--- what the passes leave has a verdict of the kind
-pub left_judged : (task : SearchTask) (given : Given) (events fs : List Event) (judged : Judged) →
-    ((goal : Criteria) (s : State) (xs : List Event) (j : Judged) → CutKeepsVerdict goal s xs j) → IsJudgedAt task given events (Some judged) →
-    (fs ≡ take judged.events events) ⊎ AreNeeded (λ kind. rank judged.verdict == kind) (HasKind task given) fs → HasSuch task given fs (rank judged.verdict)
-left_judged task given events fs judged cut h (inl is) =
-    subst (λ es. HasSuch task given es (rank judged.verdict)) (sym is) (judged, cut_judged task given events judged cut h, refl)
-left_judged task given events fs judged cut h (inr (es, n, (kind, has, same), is)) =
+-- what the passes leave behind first events has a verdict of the kind
+pub left_judged : (given : Given) (events first rest fs : List Event) (judged : Judged) →
+    ((goal : Criteria) (s : State) (xs : List Event) (j : Judged) → CutKeepsVerdict goal s xs j) → IsJudgedAt given events (Some judged) →
+    first ++ rest ≡ take judged.events events →
+    (fs ≡ rest) ⊎ AreNeeded (λ kind. rank judged.verdict == kind) (HasKind given first) fs → HasSuch given (first ++ fs) (rank judged.verdict)
+left_judged given events first rest fs judged cut h parts (inl is) =
+    let there : first ++ fs ≡ take judged.events events = ap (λ es. first ++ es) is ∙ parts in
+    subst (λ es. HasSuch given es (rank judged.verdict)) (sym there) (judged, cut_judged given events judged cut h, refl)
+left_judged given events first rest fs judged cut h parts (inr (es, n, (kind, has, same), is)) =
     let kinds : rank judged.verdict ≡ kind = eqb-true (rank judged.verdict) kind same in
-    subst (λ k. HasSuch task given fs k) (sym kinds)
-    (subst (λ xs. HasSuch task given xs kind) (sym is) (such task given es kind n has.0 cut has.1 has.2))
+    subst (λ k. HasSuch given (first ++ fs) k) (sym kinds)
+    (subst (λ xs. HasSuch given (first ++ xs) kind) (sym is) (such given first es kind n has.0 cut has.1 has.2))
 
 -- what is printed
 
@@ -129,21 +117,23 @@ low_when whole Stuck h = omega arith
 low_when whole Output h = omega arith
 low_when whole End h = absurd (let bad : true ≡ false = h in cc)
 
-final_told : (cut : Bool) (task : SearchTask) (given : Given) (events : List Event) (last : Judged) → IsJudgedAt task given events (Some last) → rank last.verdict < 5 →
+final_told : (cut : Bool) (task : SearchTask) (given : Given) (events : List Event) (last : Judged) → IsJudgedAt given events (Some last) → rank last.verdict < 5 →
     IsRunTold cut task given events (Some (told_of last))
 final_told true task given events last h low = (h.0, h.1, (h.2, inl low))
 final_told false task given events last h low = (h.0, Some last, h.1, h.2, refl)
 
 -- what the passes leave
-pub left_printed : (task : SearchTask) (given : Given) (events : List Event) (judged last : Judged) (printed : Printed) →
+pub left_printed : (task : SearchTask) (given : Given) (events first rest fs : List Event) (judged last : Judged) (printed : Printed) →
     ((goal : Criteria) (s : State) (xs : List Event) (j : Judged) → CutKeepsVerdict goal s xs j) →
     ((goal : Criteria) (s : State) (es : List Event) → IsOneVerdict goal s es) → is_whole task.whole (verdicts.Run judged.verdict) ≡ false →
-    ArePrinted false task given events (told_of judged) printed.events.items → printed.verdict ≡ verdicts.Run last.verdict → IsJudgedAt task given events (Some judged) →
-    (printed.events.items ≡ take judged.events events) ⊎ AreNeeded (λ kind. rank judged.verdict == kind) (HasKind task given) printed.events.items →
-    IsJudgedAt task given printed.events.items (Some last) → (cut : Bool) → ArePrintedWith cut task given events (told_of judged) printed
-left_printed task given events judged last printed cut one part short verdict h left again cut_is =
-    let such = left_judged task given events printed.events.items judged cut h left in
-    let same : Some last ≡ Some such.0 = one_judged task given printed.events.items (Some last) (Some such.0) one again such.1 in
+    ArePrinted false task given events (told_of judged) printed.events.items → printed.verdict ≡ verdicts.Run last.verdict → IsJudgedAt given events (Some judged) →
+    first ++ rest ≡ take judged.events events → printed.events.items ≡ first ++ fs →
+    (fs ≡ rest) ⊎ AreNeeded (λ kind. rank judged.verdict == kind) (HasKind given first) fs →
+    IsJudgedAt given printed.events.items (Some last) → (cut : Bool) → ArePrintedWith cut task given events (told_of judged) printed
+left_printed task given events first rest fs judged last printed cut one part short verdict h parts joined left again cut_is =
+    let such = left_judged given events first rest fs judged cut h parts left in
+    let there : IsJudgedAt given printed.events.items (Some such.0) = subst (λ es. IsJudgedAt given es (Some such.0)) (sym joined) such.1 in
+    let same : Some last ≡ Some such.0 = one_judged given printed.events.items (Some last) (Some such.0) one again there in
     let is : last ≡ such.0 = cc in
     let same_kind : rank last.verdict ≡ rank judged.verdict = ap (λ (j : Judged). rank j.verdict) is ∙ such.2 in
     let low = low_when task.whole judged.verdict part in
@@ -156,73 +146,76 @@ left_printed task given events judged last printed cut one part short verdict h 
     }
 
 -- they have a verdict
-pub left_has_one : (task : SearchTask) (given : Given) (events fs : List Event) (judged : Judged) →
+pub left_has_one : (given : Given) (events first rest fs : List Event) (judged : Judged) →
     ((goal : Criteria) (s : State) (xs : List Event) (j : Judged) → CutKeepsVerdict goal s xs j) →
-    ((goal : Criteria) (s : State) (es : List Event) → IsOneVerdict goal s es) → IsJudgedAt task given events (Some judged) →
-    (fs ≡ take judged.events events) ⊎ AreNeeded (λ kind. rank judged.verdict == kind) (HasKind task given) fs → IsJudgedAt task given fs None → ⊥
-left_has_one task given events fs judged cut one h left again =
-    let such = left_judged task given events fs judged cut h left in
-    let same : None ≡ Some such.0 = one_judged task given fs None (Some such.0) one again such.1 in
+    ((goal : Criteria) (s : State) (es : List Event) → IsOneVerdict goal s es) → IsJudgedAt given events (Some judged) →
+    first ++ rest ≡ take judged.events events →
+    (fs ≡ rest) ⊎ AreNeeded (λ kind. rank judged.verdict == kind) (HasKind given first) fs → IsJudgedAt given (first ++ fs) None → ⊥
+left_has_one given events first rest fs judged cut one h parts left again =
+    let such = left_judged given events first rest fs judged cut h parts left in
+    let same : None ≡ Some such.0 = one_judged given (first ++ fs) None (Some such.0) one again such.1 in
     cc
 
--- by the verdict's kind, and of the events that it needs, from the state at boot
+-- by the verdict's kind, from the state at boot
 
-left_at : (task : SearchTask) (given : Given) (s : State) (fs es : List Event) (k : ℕ) → BeginsAt task given s →
-    (fs ≡ es) ⊎ AreNeeded (λ kind. k == kind) (HasKindFrom s given) fs → (fs ≡ es) ⊎ AreNeeded (λ kind. k == kind) (HasKind task given) fs
-left_at task given s fs es k begins (inl is) = inl is
-left_at task given s fs es k begins (inr (xs, n, (kind, has, same), is)) = inr (xs, n, (kind, has task begins, same), is)
+left_at : (given : Given) (s : State) (first fs es : List Event) (k : ℕ) → BeginsAt given s →
+    (fs ≡ es) ⊎ AreNeeded (λ kind. k == kind) (HasKindFrom s given first) fs → (fs ≡ es) ⊎ AreNeeded (λ kind. k == kind) (HasKind given first) fs
+left_at given s first fs es k begins (inl is) = inl is
+left_at given s first fs es k begins (inr (xs, n, (kind, has, same), is)) = inr (xs, n, (kind, has begins, same), is)
 
-pub left_as : (task : SearchTask) (given : Given) (s : State) (fs es gs : List Event) (k r : ℕ) → BeginsAt task given s → es ≡ gs → k ≡ r →
-    (fs ≡ es) ⊎ AreNeeded (λ kind. k == kind) (HasKindFrom s given) fs → (fs ≡ gs) ⊎ AreNeeded (λ kind. r == kind) (HasKind task given) fs
-left_as task given s fs es gs k r begins same kind h =
-    subst (λ xs. (fs ≡ xs) ⊎ AreNeeded (λ kind. r == kind) (HasKind task given) fs) same
-    (subst (λ n. (fs ≡ es) ⊎ AreNeeded (λ kind. n == kind) (HasKind task given) fs) kind (left_at task given s fs es k begins h))
+pub left_as : (given : Given) (s : State) (first fs es : List Event) (k r : ℕ) → BeginsAt given s → k ≡ r →
+    (fs ≡ es) ⊎ AreNeeded (λ kind. k == kind) (HasKindFrom s given first) fs → (fs ≡ es) ⊎ AreNeeded (λ kind. r == kind) (HasKind given first) fs
+left_as given s first fs es k r begins kind h =
+    subst (λ n. (fs ≡ es) ⊎ AreNeeded (λ kind. n == kind) (HasKind given first) fs) kind (left_at given s first fs es k begins h)
 
-pub short_as : (task : SearchTask) (given : Given) (s : State) (fs es gs : List Event) (k r : ℕ) → BeginsAt task given s → es ≡ gs → k ≡ r →
-    Shortens (λ kind. k == kind) (HasKindFrom s given) es fs → Shortens (λ kind. r == kind) (HasKind task given) gs fs
-short_as task given s fs es gs k r begins same kind h =
-    subst (λ xs. Shortens (λ kind. r == kind) (HasKind task given) xs fs) same
-    (subst (λ n. Shortens (λ kind. n == kind) (HasKind task given) es fs) kind
-    (shortens_by (λ kind. k == kind) (HasKindFrom s given) (HasKind task given) es fs (λ xs verdict has. has task begins) h))
+pub short_as : (given : Given) (s : State) (first fs es : List Event) (k r : ℕ) → BeginsAt given s → k ≡ r →
+    Shortens (λ kind. k == kind) (HasKindFrom s given first) es fs → Shortens (λ kind. r == kind) (HasKind given first) es fs
+short_as given s first fs es k r begins kind h =
+    subst (λ n. Shortens (λ kind. n == kind) (HasKind given first) es fs) kind
+    (shortens_by (λ kind. k == kind) (HasKindFrom s given first) (HasKind given first) es fs (λ xs verdict has. has begins) h)
 
 -- what became of a run
 
-judged_of : (task : SearchTask) (given : Given) (order : Order) (run : JudgedRun) → IsRunOf task given order run → IsJudgedAt task given run.events.items run.judged
+judged_of : (task : SearchTask) (given : Given) (order : Order) (run : JudgedRun) → IsRunOf task given order run → IsJudgedAt given run.events.items run.judged
 judged_of task given order run is = (is.booted, is.is_booted, is.judged)
 
-right_told : HangingAreMade → (s : State) (q : Question) (task : SearchTask) (given : Given) (order : Order) (run : JudgedRun) → Begins task given s q → IsRunOf task given order run →
+right_told : HangingAreMade → (s : State) (q : Question) (task : SearchTask) (given : Given) (order : Order) (run : JudgedRun) → Begins given s q → IsRunOf task given order run →
     TellsRun run.is_cut task.hung q run.events.items run.judged None → IsRunTold run.is_cut task given run.events.items None
 right_told law s q task given order run begins is of =
     run_told law run.is_cut task given s q run.events.items run.judged None begins (judged_of task given order run is) of
 
-wrong_told : HangingAreMade → (s : State) (q : Question) (task : SearchTask) (given : Given) (order : Order) (run : JudgedRun) (wrong : WrongRun) → Begins task given s q →
+wrong_told : HangingAreMade → (s : State) (q : Question) (task : SearchTask) (given : Given) (order : Order) (run : JudgedRun) (wrong : WrongRun) → Begins given s q →
     IsRunOf task given order run → wrong.run ≡ run → TellsRun run.is_cut task.hung q run.events.items run.judged (Some wrong.told) →
     IsRunTold wrong.run.is_cut task given wrong.run.events.items (Some wrong.told)
 wrong_told law s q task given order run wrong begins is same of =
     subst (λ (r : JudgedRun). IsRunTold r.is_cut task given r.events.items (Some wrong.told)) (sym same)
     (run_told law run.is_cut task given s q run.events.items run.judged (Some wrong.told) begins (judged_of task given order run is) of)
 
-pub seed_judged : HangingAreMade → (s : State) (q : Question) (task : SearchTask) (given : Given) (k : ℕ) (run : JudgedRun) (tested : Tested WrongRun) →
-    IsRunFrom s task given (with_seed (seed_at task.drive.order k) task.drive.order) run → IsTested task.hung q run tested →
-    IsJudgedTrial (IsSeedRightFrom s q task given k) (IsSeedWrongFrom s q task given k) tested
-seed_judged law s q task given k run (Right is_cut) is h = λ begins.
-    (run, is begins.boots, right_told law s q task given (with_seed (seed_at task.drive.order k) task.drive.order) run begins (is begins.boots) h.0, h.1)
-seed_judged law s q task given k run (Wrong wrong) is h = λ begins. (
-  subst (IsRunAt task given k) (sym h.0) (is begins.boots),
-  wrong_told law s q task given (with_seed (seed_at task.drive.order k) task.drive.order) run wrong begins (is begins.boots) h.0 h.1,
-)
+pub seed_judged : HangingAreMade → (start : Start) (q : Question) (task : SearchTask) (given : Given) (k : ℕ) (run : JudgedRun) (tested : Tested WrongRun) →
+    IsRunFrom start task given (with_seed (seed_at task.drive.order k) task.drive.order) run → IsTested task.hung q run tested →
+    IsJudgedTrial (IsSeedRightFrom start q task given k) (IsSeedWrongFrom start q task given k) tested
+seed_judged law start q task given k run (Right is_cut) is h = λ behind.
+    let order = with_seed (seed_at task.drive.order k) task.drive.order in
+    let made = (is (behind.0, behind.1.boots, behind.2)).0 in
+    (run, made, right_told law behind.0 q task given order run behind.1 made h.0, h.1)
+seed_judged law start q task given k run (Wrong wrong) is h = λ behind.
+    let order = with_seed (seed_at task.drive.order k) task.drive.order in
+    let made = (is (behind.0, behind.1.boots, behind.2)).0 in
+    (subst (IsRunAt task given k) (sym h.0) made, wrong_told law behind.0 q task given order run wrong behind.1 made h.0 h.1)
 
-pub list_judged : HangingAreMade → (s : State) (q : Question) (task : SearchTask) (given : Given) (steps : ℕ) (delays : Delays) (run : JudgedRun) (tested : Tested WrongRun) →
-    IsRunFrom s task given (Delayed steps delays) run → IsTested task.hung q run tested →
-    IsJudgedTrial (IsRightFrom s q task given steps (delays_of delays)) (IsWrongFrom s q task given steps (delays_of delays)) tested
-list_judged law s q task given steps delays run (Right is_cut) is h = λ begins.
-    (delays, run, refl, is begins.boots, right_told law s q task given (Delayed steps delays) run begins (is begins.boots) h.0, h.1)
-list_judged law s q task given steps delays run (Wrong wrong) is h = λ begins. (
-  delays,
-  refl,
-  subst (IsRunOf task given (Delayed steps delays)) (sym h.0) (is begins.boots),
-  wrong_told law s q task given (Delayed steps delays) run wrong begins (is begins.boots) h.0 h.1,
-)
+pub list_judged : HangingAreMade → (start : Start) (q : Question) (task : SearchTask) (given : Given) (steps : ℕ) (delays : Delays) (run : JudgedRun) (tested : Tested WrongRun) →
+    IsRunFrom start task given (Delayed steps delays) run → IsTested task.hung q run tested →
+    IsJudgedTrial (IsRightFrom start q task given steps (delays_of delays)) (IsWrongFrom start q task given steps (delays_of delays)) tested
+list_judged law start q task given steps delays run (Right is_cut) is h = λ behind.
+    let made = is (behind.0, behind.1.boots, behind.2) in
+    (delays, run, refl, made.0, right_told law behind.0 q task given (Delayed steps delays) run behind.1 made.0 h.0, h.1, made.1)
+list_judged law start q task given steps delays run (Wrong wrong) is h = λ behind.
+    let made = (is (behind.0, behind.1.boots, behind.2)).0 in (
+      delays,
+      refl,
+      subst (IsRunOf task given (Delayed steps delays)) (sym h.0) made,
+      wrong_told law behind.0 q task given (Delayed steps delays) run wrong behind.1 made h.0 h.1,
+    )
 
 -- what came of the seeds
 
@@ -230,19 +223,14 @@ pub rights_as : {X : Type 0} (R Q : X → Bool → Type 0) (xs : List X) (cut : 
 rights_as R Q [] cut f h = h
 rights_as R Q (x ∷ xs) cut f h = (h.0, h.1, f x h.0 h.2, h.3, rights_as R Q xs h.1 f h.4)
 
-pub tried_by : (task : SearchTask) (given : Given) (s : State) (q : Question) (result : Result (Tried WrongRun) Fault) → Begins task given s q →
-    IfOk result (IsAnswer (IsSeedRightFrom s q task given) (IsSeedWrongFrom s q task given) task.seeds) → IfOk result (IsTried task given)
-tried_by task given s q (Ok (Clean cut)) begins h =
-    rights_as (IsSeedRightFrom s q task given) (IsRightAt task given) (range_with_len 0 task.seeds) cut (λ k b right. right begins) h
-tried_by task given s q (Ok (WrongTrial place wrong)) begins h = record {
+pub tried_by : (task : SearchTask) (given : Given) (start : Start) (q : Question) (result : Result (Tried WrongRun) Fault) → BeginsBehind given start q →
+    IfOk result (IsAnswer (IsSeedRightFrom start q task given) (IsSeedWrongFrom start q task given) task.seeds) → IfOk result (IsTried task given)
+tried_by task given start q (Ok (Clean cut)) begins h =
+    rights_as (IsSeedRightFrom start q task given) (IsRightAt task given) (range_with_len 0 task.seeds) cut (λ k b right. right begins) h
+tried_by task given start q (Ok (WrongTrial place wrong)) begins h = record {
   within = h.0;
   before = λ n less. (let right = h.2 n less in (right.0, right.1 begins));
   is_run = (h.1 begins).0;
   wrong = (h.1 begins).1;
 }
-tried_by task given s q (Err fault) begins h = tt
-
-pub seeds_fail : (task : SearchTask) (given : Given) (s : State) (result : Result (Tried WrongRun) Fault) → BeginsAt task given s →
-    IfErr result (IsFaultFrom s task given) → IfErr result (IsRunFault task given)
-seeds_fail task given s (Ok tried) begins h = tt
-seeds_fail task given s (Err fault) begins h = h begins
+tried_by task given start q (Err fault) begins h = tt

@@ -9,3 +9,6 @@ pub mod Delaying
 pub mod Numbers
 pub mod Pointing
 pub mod Exploring
+mod Behind
+mod Starting
+mod Noting

@@ -1,4 +1,4 @@
-use Rattle.std.proofs.Common.{◌≡◌, ◌∙◌, ap, sym, subst, ℕ, zero, suc, ◌+◌, ◌-◌, ◌≤◌, List, [], ◌++◌, length, arith}
+use Rattle.std.proofs.Common.{◌≡◌, ◌∙◌, ap, sym, subst, ℕ, zero, suc, ◌+◌, ◌-◌, ◌≤◌, List, [], ◌++◌, append_assoc, append-nil, length, arith}
 use Rattle.std.proofs.lemmas.List.{length-append, length-map, map-append}
 use Rattle.std.specs.Prelude.{slice_get}
 use Rattle.m161_delays.specs.Lists.{AgreeBelow, times}
@@ -30,6 +30,8 @@ use Rattle.s161_command.specs.declared.task.SearchTask.{SearchTask}
 use Rattle.s161_run.specs.Driven.{rules_of}
 use Rattle.s161_search.specs.Given.{Given, criteria_of}
 use Rattle.s161_search.specs.declared.points.RunPoint.{RunPoint}
+use Rattle.s161_search.specs.declared.start.Start.{Start}
+use Rattle.s161_search.specs.Runs.{most_of}
 use Rattle.s161_search.specs.helpers.Points.{IsPointOf, KeepsFrom}
 
 -- Points of the runs of lists of delays.
@@ -61,33 +63,38 @@ delayed_start : (task : SearchTask) (given : Given) (steps : ℕ) (delays : Dela
     cursor_at rules s ≡ with_delays (record { steps = steps; made = 0 }) (delays_of delays) (cursor_at (rules_of task.drive given.keys) s)
 delayed_start task given steps delays s rules rules_are = ap (λ r. cursor_at r s) rules_are
 
--- the point before the first event is one of each list's run
-pub starts_all : (s : State) (task : SearchTask) (given : Given) (steps : ℕ) (delays : Delays) (rules : Rules) (point : RunPoint) →
-    rules ≡ rules_of (record task.drive { order = Delayed steps delays }) given.keys → point.core.value.state ≡ s → point.cursor ≡ cursor_at rules s →
-    point.events.items ≡ [] → point.passed ≡ 0 → IsKeptOf (criteria_of given) s [] point.steps → (numbers : List ℕ) → IsPointOf s task given steps numbers point
-starts_all s task given steps delays rules point rules_are state_is cursor_is none passed_is kept numbers =
+-- the point before the first event of an order is one of each list's run
+pub starts_all : (start : Start) (task : SearchTask) (given : Given) (steps : ℕ) (delays : Delays) (rules : Rules) (point : RunPoint) →
+    rules ≡ rules_of (record task.drive { order = Delayed steps delays }) given.keys → point.core.value.state ≡ start.core.value.state →
+    point.cursor ≡ cursor_at rules start.core.value.state → point.events.items ≡ start.events.items → point.passed ≡ 0 → point.steps ≡ start.steps →
+    (numbers : List ℕ) → IsPointOf start task given steps numbers point
+starts_all start task given steps delays rules point rules_are state_is cursor_is events_are passed_is steps_are numbers =
     let turns : Turns = record { steps = steps; made = 0 } in
-    let start = cursor_at (rules_of task.drive given.keys) s in
-    let at : point.cursor ≡ with_delays turns (delays_of delays) start = cursor_is ∙ delayed_start task given steps delays s rules rules_are in
+    let s = start.core.value.state in
+    let begins = cursor_at (rules_of task.drive given.keys) s in
+    let at : point.cursor ≡ with_delays turns (delays_of delays) begins = cursor_is ∙ delayed_start task given steps delays s rules rules_are in
     let left : behind point.passed numbers ≡ numbers = ap (λ k. behind k numbers) passed_is ∙ behind_all numbers in
     record {
       order = record { turns = turns; left = delays_of delays };
       order_is = ap (λ (c : Cursor). c.order) at;
       entries = [];
       few = omega arith;
-      events_are = none;
+      events_are = events_are ∙ sym (append-nil start.events.items);
       chosen_are = (λ i. with_delays turns (left i) (at i), state_is);
-      kept = subst (λ es. IsKeptOf (criteria_of given) s es point.steps) (sym none) kept;
+      kept = λ boot h.
+          subst (λ m. IsKeptOf (criteria_of given) boot point.events.items m) (sym steps_are)
+          (subst (λ es. IsKeptOf (criteria_of given) boot es start.steps) (sym events_are) h.kept);
     }
 
 -- a copy is one of the same runs
-pub copied : (s : State) (task : SearchTask) (given : Given) (steps : ℕ) (left : List ℕ) (old new : RunPoint) →
+pub copied : (start : Start) (task : SearchTask) (given : Given) (steps : ℕ) (left : List ℕ) (old new : RunPoint) →
     IsWithLeft old.cursor left new.cursor → new.core.value.state ≡ old.core.value.state → new.events.items ≡ old.events.items → new.passed ≡ old.passed →
-    new.steps ≡ old.steps → (numbers : List ℕ) → IsPointOf s task given steps numbers old → IsPointOf s task given steps numbers new
-copied s task given steps left old new has_left state_is events_are passed_is steps_are numbers h =
+    new.steps ≡ old.steps → (numbers : List ℕ) → IsPointOf start task given steps numbers old → IsPointOf start task given steps numbers new
+copied start task given steps left old new has_left state_is events_are passed_is steps_are numbers h =
     let rules = rules_of task.drive given.keys in
     let keys = slice_get given.keys in
-    let start = with_delays (record { steps = steps; made = 0 }) numbers (cursor_at rules s) in
+    let s = start.core.value.state in
+    let begins = with_delays (record { steps = steps; made = 0 }) numbers (cursor_at rules s) in
     let d = has_left.0 in
     let same : h.order ≡ d = same_state old.cursor h.order d h.order_is has_left.1 in
     let cursor : with_delays h.order.turns (behind old.passed numbers) old.cursor ≡ with_delays d.turns (behind new.passed numbers) new.cursor =
@@ -100,50 +107,62 @@ copied s task given steps left old new has_left state_is events_are passed_is st
       few = h.few;
       events_are = events_are ∙ h.events_are;
       chosen_are =
-          subst (λ t. Chooses rules keys start s h.entries (with_delays d.turns (behind new.passed numbers) new.cursor) t) (sym state_is)
-          (subst (λ c. Chooses rules keys start s h.entries c old.core.value.state) cursor h.chosen_are);
-      kept =
-          subst (λ m. IsKeptOf (criteria_of given) s new.events.items m) (sym steps_are)
-          (subst (λ es. IsKeptOf (criteria_of given) s es old.steps) (sym events_are) h.kept);
+          subst (λ t. Chooses rules keys begins s h.entries (with_delays d.turns (behind new.passed numbers) new.cursor) t) (sym state_is)
+          (subst (λ c. Chooses rules keys begins s h.entries c old.core.value.state) cursor h.chosen_are);
+      kept = λ boot was.
+          subst (λ m. IsKeptOf (criteria_of given) boot new.events.items m) (sym steps_are)
+          (subst (λ es. IsKeptOf (criteria_of given) boot es old.steps) (sym events_are) (h.kept boot was));
     }
 
+-- a run before the first event of an order was begun
+pub begun_first : (rules : Rules) (n : ℕ) (fs : List Event) (u t : State) (c : Cursor) (events : List Event) → t ≡ u → c ≡ cursor_at rules t → events ≡ fs →
+    IsBegun rules n fs u c t events
+begun_first rules n fs u t c events state_is cursor_is events_are = record {
+  entries = [];
+  few = omega arith;
+  events_are = events_are ∙ sym (append-nil fs);
+  chosen_are = (cursor_is ∙ ap (cursor_at rules) state_is, state_is);
+}
+
 -- the first events of a list's run, and where they led
-pub begun : (s t : State) (task : SearchTask) (given : Given) (steps : ℕ) (delays : Delays) (rules : Rules) (point : RunPoint) (c : Cursor)
+pub begun : (start : Start) (t : State) (task : SearchTask) (given : Given) (steps : ℕ) (delays : Delays) (rules : Rules) (point : RunPoint) (c : Cursor)
     (events : List Event) → rules ≡ rules_of (record task.drive { order = Delayed steps delays }) given.keys →
     IsWithLeft point.cursor (behind point.passed (delays_of delays)) c → t ≡ point.core.value.state → events ≡ point.events.items →
-    IsPointOf s task given steps (delays_of delays) point → IsBegun rules task.drive.events s c t events
-begun s t task given steps delays rules point c events rules_are has_left state_is events_are h =
+    IsPointOf start task given steps (delays_of delays) point → IsBegun rules (most_of task given) start.events.items start.core.value.state c t events
+begun start t task given steps delays rules point c events rules_are has_left state_is events_are h =
     let plain = rules_of task.drive given.keys in
     let listed = rules_of (record task.drive { order = Delayed steps delays }) given.keys in
     let keys = slice_get given.keys in
+    let s = start.core.value.state in
     let left = behind point.passed (delays_of delays) in
-    let start = with_delays (record { steps = steps; made = 0 }) (delays_of delays) (cursor_at plain s) in
+    let begins = with_delays (record { steps = steps; made = 0 }) (delays_of delays) (cursor_at plain s) in
     let there = with_delays h.order.turns left point.cursor in
     let same : h.order ≡ has_left.0 = same_state point.cursor h.order has_left.0 h.order_is has_left.1 in
     let cursor : there ≡ c = (λ i. with_delays (same i).turns left point.cursor) ∙ sym has_left.2 in
-    let run : Chooses listed keys start s h.entries there point.core.value.state =
-    other_order plain plain.order (Delayed steps delays) keys h.entries start there s point.core.value.state h.chosen_are in
-    subst (λ r. IsBegun r task.drive.events s c t events) (sym rules_are) (record {
+    let run : Chooses listed keys begins s h.entries there point.core.value.state =
+    other_order plain plain.order (Delayed steps delays) keys h.entries begins there s point.core.value.state h.chosen_are in
+    subst (λ r. IsBegun r (most_of task given) start.events.items s c t events) (sym rules_are) (record {
       entries = h.entries;
       few = h.few;
       events_are = events_are ∙ h.events_are;
       chosen_are =
-          subst (λ u. Chooses listed keys start s h.entries c u) (sym state_is)
-          (subst (λ y. Chooses listed keys start s h.entries y point.core.value.state) cursor run);
+          subst (λ u. Chooses listed keys begins s h.entries c u) (sym state_is)
+          (subst (λ y. Chooses listed keys begins s h.entries y point.core.value.state) cursor run);
     })
 
 -- further on along the run of a list, a point is one of each list's that agrees with it below the place
-pub gone_on : (s : State) (task : SearchTask) (given : Given) (steps place n most made : ℕ) (delays : Delays) (rules : Rules) (old new : RunPoint)
+pub gone_on : (start : Start) (task : SearchTask) (given : Given) (steps place n most made : ℕ) (delays : Delays) (rules : Rules) (old new : RunPoint)
     (c : Cursor) → rules ≡ rules_of (record task.drive { order = Delayed steps delays }) given.keys →
     IsWithLeft old.cursor (behind old.passed (delays_of delays)) c →
     PassesNoting rules (slice_get rules.keys) n most c old.core.value.state old.events.items made new.cursor new.core.value.state new.events.items →
-    n ≡ task.drive.events - length old.events.items → most ≡ place - old.passed → new.passed ≡ old.passed + made →
-    KeepsFrom given new.events.items old.steps new.steps → (others : List ℕ) → AgreeBelow place (delays_of delays) others → IsPointOf s task given steps others old → IsPointOf s task given steps others new
-gone_on s task given steps place n most made delays rules old new c rules_are has_left went n_is most_is passed_is keeps others agree h =
+    n ≡ most_of task given - (length old.events.items - length start.events.items) → most ≡ place - old.passed → new.passed ≡ old.passed + made →
+    KeepsFrom given new.events.items old.steps new.steps → (others : List ℕ) → AgreeBelow place (delays_of delays) others → IsPointOf start task given steps others old → IsPointOf start task given steps others new
+gone_on start task given steps place n most made delays rules old new c rules_are has_left went n_is most_is passed_is keeps others agree h =
     let plain = rules_of task.drive given.keys in
     let listed = rules_of (record task.drive { order = Delayed steps delays }) given.keys in
     let keys = slice_get given.keys in
-    let start = with_delays (record { steps = steps; made = 0 }) others (cursor_at plain s) in
+    let s = start.core.value.state in
+    let begins = with_delays (record { steps = steps; made = 0 }) others (cursor_at plain s) in
     let a = behind old.passed (delays_of delays) in
     let b = behind old.passed others in
     let turns = h.order.turns in
@@ -172,21 +191,21 @@ gone_on s task given steps place n most made delays rules old new c rules_are ha
           let before = h.few in
           let more = went.2 in
           let sum = length-append h.entries es in
-          let size = ap length h.events_are ∙ length-map h.entries (λ (e : Entry). e.event) in
-          omega (arith, before, more, sum, size, n_is);
+          let size = ap length h.events_are ∙ length-append start.events.items (events_of h.entries) in
+          let chosen = length-map h.entries (λ (e : Entry). e.event) in
+          omega (arith, before, more, sum, size, chosen, n_is);
       events_are =
-          went.4 ∙ ap (λ xs. xs ++ events_of es) h.events_are ∙ sym (map-append (λ (e : Entry). e.event) h.entries es);
+          went.4 ∙ ap (λ xs. xs ++ events_of es) h.events_are ∙ append_assoc start.events.items (events_of h.entries) (events_of es)
+          ∙ ap (λ xs. start.events.items ++ xs) (sym (map-append (λ (e : Entry). e.event) h.entries es));
       chosen_are =
-          subst (λ y. Chooses plain keys start s (h.entries ++ es) y new.core.value.state) there
-          (chooses_append plain keys h.entries es start (with_delays turns b old.cursor) (with_delays end (behind made b) x) s old.core.value.state
+          subst (λ y. Chooses plain keys begins s (h.entries ++ es) y new.core.value.state) there
+          (chooses_append plain keys h.entries es begins (with_delays turns b old.cursor) (with_delays end (behind made b) x) s old.core.value.state
           new.core.value.state h.chosen_are run);
-      kept = keeps s old.events.items (events_of es) went.4 h.kept;
+      kept = λ boot was. keeps boot old.events.items (events_of es) went.4 (h.kept boot was);
     }
 
--- what is kept of a point's Steps, in a copy
-pub kept_again : (s : State) (given : Given) (goal : Criteria) (point : RunPoint) (events : List Event) (steps : StepsMemory) → goal ≡ criteria_of given →
-    events ≡ point.events.items → steps ≡ point.steps → IsKeptOf (criteria_of given) s point.events.items point.steps → IsKeptOf goal s events steps
-kept_again s given goal point events steps goal_is events_are steps_are h =
-    subst (λ g. IsKeptOf g s events steps) (sym goal_is)
-    (subst (λ m. IsKeptOf (criteria_of given) s events m) (sym steps_are)
-    (subst (λ es. IsKeptOf (criteria_of given) s es point.steps) (sym events_are) h))
+-- what is kept of a run's Steps, in a copy
+pub kept_again : (s : State) (goal : Criteria) (events others : List Event) (steps same : StepsMemory) → others ≡ events → same ≡ steps →
+    IsKeptOf goal s events steps → IsKeptOf goal s others same
+kept_again s goal events others steps same events_are steps_are h =
+    subst (λ m. IsKeptOf goal s others m) (sym steps_are) (subst (λ es. IsKeptOf goal s es steps) (sym events_are) h)

@@ -1,4 +1,4 @@
-use Rattle.std.proofs.Common.{◌≡◌, ◌∙◌, ◌⊎◌, inl, inr, refl, ap, sym, subst, ℕ, zero, suc, ◌<◌, arith, Bool, true, false, List, [], ◌∷◌, take, Option, None, Some, Result, Ok, Err}
+use Rattle.std.proofs.Common.{◌≡◌, ◌∙◌, ◌⊎◌, inl, inr, refl, ap, sym, subst, ℕ, zero, suc, ◌<◌, arith, Bool, true, false, List, [], ◌∷◌, ◌++◌, length, take, drop, Option, None, Some, Result, Ok, Err}
 use Rattle.std.specs.Prelude.{◌==◌, nat_lt, if◌then◌else◌, option_map, slice_get}
 use Rattle.std.proofs.lemmas.Bool.Decides.{nat_tests}
 use Rattle.std.proofs.lemmas.Option.{slice_get_within}
@@ -20,18 +20,18 @@ use Rattle.m161_shorten.specs.Passes.{Shortens}
 use Rattle.m161_shorten.specs.Verdicts.{AreNeeded}
 use Rattle.m161_shorten.proofs.Alike.{shortens_by}
 use Rattle.m161_states.specs.Question.{Question, booted, least}
-use Rattle.s161_base.specs.Sizes.{conf_of}
 use Rattle.s161_command.specs.declared.task.SearchTask.{SearchTask}
 use Rattle.s161_search.specs.declared.found.Printed.{Printed}
 use Rattle.s161_search.specs.declared.told.SearchVerdict.{SearchVerdict}
 use Rattle.s161_search.specs.declared.told.SearchVerdict.TheVariants.{Run, Hung}
 use Rattle.s161_search.specs.declared.told.Told.{Told}
 use Rattle.s161_search.specs.Given.{Given, criteria_of}
-use Rattle.s161_search.specs.Searches.{ArePrinted, HasHang, IsJudgedAt, hang_of, hang_with, is_whole}
+use Rattle.s161_search.specs.Searches.{ArePrinted, HasHang, IsJudgedAt, hang_behind, hang_with, is_whole, kind_number}
 use Rattle.s161_search.specs.Told.{Hang, HangNot, IsRunTold, IsTold, IsToldAt, NoneBefore, ends_of, told_of}
 use Rattle.s161_search.specs.helpers.Begun.{IsJudgedFrom}
 use Rattle.s161_search.specs.helpers.Telling.{Begins, HasHangFrom, TellsOf, TellsRun, comes_first}
 use Rattle.s161_search.specs.helpers.Tried.{ArePrintedWith}
+use Rattle.s161_search.proofs.Behind.{are_shortened, cut_parts, parts_of, take_needed}
 use Rattle.s161_search.proofs.Booting.{booted_as_one, begins as starts}
 
 -- The verdict of a search.
@@ -116,10 +116,10 @@ tells law few goal s q events judged told can asks h (inr hang) =
     subst (IsTold few goal s events) (sym hang.is) all
 
 pub told_at : HangingAreMade → (task : SearchTask) (given : Given) (s : State) (q : Question) (events : List Event) (judged : Option Judged) (told : Option Told) →
-    Begins task given s q → IsJudgedAt task given events judged → TellsOf task.hung q events judged told → IsToldAt task given events told
+    Begins given s q → IsJudgedAt given events judged → TellsOf task.hung q events judged told → IsToldAt task given events told
 told_at law task given s q events judged told begins h of =
-    let boots = starts task given s begins.boots in
-    let same = booted_as_one given.file (conf_of task.size) h.0 s h.1 boots in
+    let boots = starts given s begins.boots in
+    let same = booted_as_one given.file given.conf h.0 s h.1 boots in
     let goal = criteria_of given in (
       s,
       boots,
@@ -137,7 +137,7 @@ not_hung n (Some judged) h = hung_or_run n judged (let same : ◌≡◌ {A = Tol
 -- of a run
 
 pub run_told : HangingAreMade → (cut : Bool) (task : SearchTask) (given : Given) (s : State) (q : Question) (events : List Event) (judged : Option Judged)
-    (told : Option Told) → Begins task given s q → IsJudgedAt task given events judged → TellsRun cut task.hung q events judged told →
+    (told : Option Told) → Begins given s q → IsJudgedAt given events judged → TellsRun cut task.hung q events judged told →
     IsRunTold cut task given events told
 run_told law true task given s q events judged told begins h of = told_at law task given s q events judged told begins h of
 run_told law false task given s q events judged told begins h of = (h.0, judged, h.1, h.2, of)
@@ -151,13 +151,13 @@ hung_is_cut false task given events n h = absurd (not_hung n h.1 h.4)
 
 -- the judge by hangs
 
-pub hang_judged : HangingAreMade → (s : State) (q : Question) (few : ℕ) (given : Given) (events es : List Event) (judged : Option Judged) (told : Option Told)
-    (verdict : Option (Judgement ℕ)) → es ≡ events → IsJudgedFrom s given es judged → TellsOf few q es judged told → verdict ≡ hang_of told →
-    HasHangFrom s q few given events verdict
-hang_judged law s q few given events es judged told verdict same h of is = λ task few_is begins. (
+pub hang_judged : HangingAreMade → (s : State) (q : Question) (few : ℕ) (given : Given) (first events all es : List Event) (judged : Option Judged) (told : Option Told)
+    (verdict : Option (Judgement ℕ)) → es ≡ all → all ≡ first ++ events → IsJudgedFrom s given es judged → TellsOf few q es judged told →
+    verdict ≡ hang_behind (length first) told → HasHangFrom s q few given first events verdict
+hang_judged law s q few given first events all es judged told verdict same joined h of is = λ task few_is begins. (
   told,
-  subst (λ xs. IsToldAt task given xs told) same
-      (told_at law task given s q es judged told begins (h task begins.boots) (subst (λ n. TellsOf n q es judged told) (sym few_is) of)),
+  subst (λ xs. IsToldAt task given xs told) (same ∙ joined)
+      (told_at law task given s q es judged told begins (h begins.boots) (subst (λ n. TellsOf n q es judged told) (sym few_is) of)),
   is,
 )
 
@@ -174,61 +174,62 @@ cut_hang task given events n worse keeps h =
     let cut = keeps (asked_of s (ends_of goal)) task.hung events n hang.2 in
     (s, h.1, (hang.0, (λ v k low holds. hang.1 v k low (worse goal s events n v k cut.0 low holds)), cut.1))
 
--- a list that hangs by a judge
-
-hung_with : (task : SearchTask) (given : Given) (events : List Event) (kind needs : ℕ) (v : SearchVerdict) (n : ℕ) →
-    IsToldAt task given events (Some (record { verdict = v; events = n })) → Some (record { kind = kind; needs = needs }) ≡ hang_with v n →
-    (kind ≡ 6) × IsToldAt task given events (Some (record { verdict = Hung; events = needs }))
-hung_with task given events kind needs (Run v) n h is = absurd (let bad : ◌≡◌ {A = Option (Judgement ℕ)} (Some (record { kind = kind; needs = needs })) None = is in cc)
-hung_with task given events kind needs Hung n h is =
-    let same : ◌≡◌ {A = Judgement ℕ} (record { kind = kind; needs = needs }) (record { kind = 6; needs = n }) = cc in
-    (ap (λ (j : Judgement ℕ). j.kind) same, subst (λ k. IsToldAt task given events (Some (record { verdict = Hung; events = k }))) (sym (ap (λ (j : Judgement ℕ). j.needs) same)) h)
-
-hung_by : (task : SearchTask) (given : Given) (events : List Event) (kind needs : ℕ) (told : Option Told) → IsToldAt task given events told →
-    Some (record { kind = kind; needs = needs }) ≡ hang_of told → IsToldAt task given events (Some (record { verdict = Hung; events = needs }))
-hung_by task given events kind needs None h is = absurd (let bad : ◌≡◌ {A = Option (Judgement ℕ)} (Some (record { kind = kind; needs = needs })) None = is in cc)
-hung_by task given events kind needs (Some told) h is = (hung_with task given events kind needs told.verdict told.events h is).1
-
--- what the passes leave hangs
-
+-- events that hang
 abbrev HangsAll : SearchTask → Given → List Event → Type 0
 HangsAll task given events = (n : ℕ) × IsToldAt task given events (Some (record { verdict = Hung; events = n }))
 
-left_hangs : (task : SearchTask) (given : Given) (s : State) (q : Question) (events fs : List Event) (n : ℕ) →
-    ((goal : Criteria) (t : State) (es : List Event) → FirstIsNoWorse goal t es) → CutKeepsHang → Begins task given s q →
-    IsToldAt task given events (Some (record { verdict = Hung; events = n })) →
-    (fs ≡ take n events) ⊎ AreNeeded (λ kind. 6 == kind) (HasHangFrom s q task.hung given) fs → HangsAll task given fs
-left_hangs task given s q events fs n worse keeps begins h (inl is) =
-    (n, subst (λ es. IsToldAt task given es (Some (record { verdict = Hung; events = n }))) (sym is) (cut_hang task given events n worse keeps h))
-left_hangs task given s q events fs n worse keeps begins h (inr (es, m, (kind, has, same), is)) =
-    let had = has task refl begins in (
-      m,
-      subst (λ xs. IsToldAt task given xs (Some (record { verdict = Hung; events = m }))) (sym is)
-          (cut_hang task given es m worse keeps (hung_by task given es kind m had.0 had.1 had.2)),
-    )
+-- a list that hangs by a judge behind first events, cut behind what it needs
 
-pub hung_printed : (task : SearchTask) (given : Given) (s : State) (q : Question) (events cut : List Event) (n kind : ℕ) (printed : Printed) →
-    ((goal : Criteria) (t : State) (es : List Event) → FirstIsNoWorse goal t es) → CutKeepsHang → Begins task given s q → task.whole ≡ false →
-    cut ≡ take n events → kind ≡ 6 → printed.verdict ≡ Hung → IsToldAt task given events (Some (record { verdict = Hung; events = n })) →
-    Shortens (λ k. kind == k) (HasHangFrom s q task.hung given) cut printed.events.items →
-    (printed.events.items ≡ cut) ⊎ AreNeeded (λ k. kind == k) (HasHangFrom s q task.hung given) printed.events.items →
+hung_with : (task : SearchTask) (given : Given) (first es : List Event) (kind needs : ℕ) (v : SearchVerdict) (n : ℕ) →
+    ((goal : Criteria) (s : State) (xs : List Event) → FirstIsNoWorse goal s xs) → CutKeepsHang →
+    IsToldAt task given (first ++ es) (Some (record { verdict = v; events = n })) → Some (record { kind = kind; needs = needs }) ≡ hang_with (length first) v n →
+    HangsAll task given (first ++ take needs es)
+hung_with task given first es kind needs (Run v) n worse keeps h is = absurd (let bad : ◌≡◌ {A = Option (Judgement ℕ)} (Some (record { kind = kind; needs = needs })) None = is in cc)
+hung_with task given first es kind needs Hung n worse keeps h is =
+    let parts = parts_of (length first) 6 n (record { kind = kind; needs = needs }) is in
+    let there : first ++ take needs es ≡ take n (first ++ es) =
+    ap (λ k. first ++ take k es) parts.needs_is ∙ take_needed first es n parts.within in
+    (n, subst (λ xs. IsToldAt task given xs (Some (record { verdict = Hung; events = n }))) (sym there) (cut_hang task given (first ++ es) n worse keeps h))
+
+hung_by : (task : SearchTask) (given : Given) (first es : List Event) (kind needs : ℕ) (told : Option Told) →
+    ((goal : Criteria) (s : State) (xs : List Event) → FirstIsNoWorse goal s xs) → CutKeepsHang → IsToldAt task given (first ++ es) told →
+    Some (record { kind = kind; needs = needs }) ≡ hang_behind (length first) told → HangsAll task given (first ++ take needs es)
+hung_by task given first es kind needs None worse keeps h is = absurd (let bad : ◌≡◌ {A = Option (Judgement ℕ)} (Some (record { kind = kind; needs = needs })) None = is in cc)
+hung_by task given first es kind needs (Some told) worse keeps h is = hung_with task given first es kind needs told.verdict told.events worse keeps h is
+
+-- what the passes leave hangs
+
+left_hangs : (task : SearchTask) (given : Given) (s : State) (q : Question) (events first rest fs : List Event) (n : ℕ) →
+    ((goal : Criteria) (t : State) (es : List Event) → FirstIsNoWorse goal t es) → CutKeepsHang → Begins given s q →
+    IsToldAt task given events (Some (record { verdict = Hung; events = n })) → first ++ rest ≡ take n events →
+    (fs ≡ rest) ⊎ AreNeeded (λ kind. 6 == kind) (HasHangFrom s q task.hung given first) fs → HangsAll task given (first ++ fs)
+left_hangs task given s q events first rest fs n worse keeps begins h parts (inl is) =
+    let there : first ++ fs ≡ take n events = ap (λ es. first ++ es) is ∙ parts in
+    (n, subst (λ es. IsToldAt task given es (Some (record { verdict = Hung; events = n }))) (sym there) (cut_hang task given events n worse keeps h))
+left_hangs task given s q events first rest fs n worse keeps begins h parts (inr (es, m, (kind, has, same), is)) =
+    let had = has task refl begins in
+    subst (λ xs. HangsAll task given (first ++ xs)) (sym is) (hung_by task given first es kind m had.0 worse keeps had.1 had.2)
+
+pub hung_printed : (task : SearchTask) (given : Given) (s : State) (q : Question) (events cut first rest fs : List Event) (n : ℕ) (printed : Printed) →
+    ((goal : Criteria) (t : State) (es : List Event) → FirstIsNoWorse goal t es) → CutKeepsHang → Begins given s q → task.whole ≡ false →
+    cut ≡ take n events → first ≡ take (length given.first) cut → rest ≡ drop (length given.first) cut → printed.events.items ≡ first ++ fs →
+    printed.verdict ≡ Hung → IsToldAt task given events (Some (record { verdict = Hung; events = n })) →
+    Shortens (λ k. 6 == k) (HasHangFrom s q task.hung given first) rest fs →
+    (fs ≡ rest) ⊎ AreNeeded (λ k. 6 == k) (HasHangFrom s q task.hung given first) fs →
     ArePrintedWith true task given events (record { verdict = Hung; events = n }) printed
-hung_printed task given s q events cut n kind printed worse keeps begins part cut_is kind_is verdict h short left =
+hung_printed task given s q events cut first rest fs n printed worse keeps begins part cut_is first_is rest_is joined verdict h short left =
     let told : Told = record { verdict = Hung; events = n } in
-    let fs = printed.events.items in
-    let left_six : (fs ≡ take n events) ⊎ AreNeeded (λ k. 6 == k) (HasHangFrom s q task.hung given) fs =
-    subst (λ xs. (fs ≡ xs) ⊎ AreNeeded (λ k. 6 == k) (HasHangFrom s q task.hung given) fs) cut_is
-    (subst (λ r. (fs ≡ cut) ⊎ AreNeeded (λ k. r == k) (HasHangFrom s q task.hung given) fs) kind_is left) in
-    let hangs = left_hangs task given s q events fs n worse keeps begins h left_six in
-    let short_six : ArePrinted false task given events told fs =
-    subst (λ xs. Shortens (λ k. 6 == k) (HasHang task given) xs fs) cut_is
-    (subst (λ r. Shortens (λ k. r == k) (HasHang task given) cut fs) kind_is
-    (shortens_by (λ k. kind == k) (HasHangFrom s q task.hung given) (HasHang task given) cut fs (λ xs verdict has. has task refl begins) short)) in
+    let parts = cut_parts (length given.first) cut (take n events) first rest cut_is first_is rest_is in
+    let hangs = left_hangs task given s q events first rest fs n worse keeps begins h parts left in
+    let by_hang : Shortens (λ k. kind_number Hung == k) (HasHang task given first) rest fs =
+    shortens_by (λ k. 6 == k) (HasHangFrom s q task.hung given first) (HasHang task given first) rest fs (λ xs verdict has. has task refl begins) short in
+    let shortened : ArePrinted false task given events told printed.events.items =
+    are_shortened (length given.first) task given Hung cut (take n events) first rest fs printed.events.items cut_is first_is rest_is joined by_hang in
     record {
-      are_printed = subst (λ b. ArePrinted b task given events told fs) (sym part) short_six;
+      are_printed = subst (λ b. ArePrinted b task given events told printed.events.items) (sym part) shortened;
       final = record { verdict = Hung; events = hangs.0 };
       verdict_is = verdict;
-      is_told = hangs.1;
+      is_told = subst (λ es. IsToldAt task given es (Some (record { verdict = Hung; events = hangs.0 }))) (sym joined) hangs.1;
       same_kind = refl;
     }
 
@@ -259,20 +260,20 @@ run_verdict a b h =
     λ i. record { verdict = verdict i; events = count i }
 
 same_judged : (task : SearchTask) (given : Given) (events : List Event) (judged : Judged) (booted : State) (other : Option Judged) →
-    IsBootState given.file (conf_of task.size) booted → IsJudged (criteria_of given) booted events other →
-    ◌≡◌ {A = Option Told} (Some (told_of judged)) (option_map told_of other) → IsJudgedAt task given events (Some judged)
+    IsBootState given.file given.conf booted → IsJudged (criteria_of given) booted events other →
+    ◌≡◌ {A = Option Told} (Some (told_of judged)) (option_map told_of other) → IsJudgedAt given events (Some judged)
 same_judged task given events judged booted None boots h is = absurd (cc)
 same_judged task given events judged booted (Some other) boots h is =
     let same : ◌≡◌ {A = Told} (told_of judged) (told_of other) = cc in
     (booted, boots, subst (λ j. IsJudged (criteria_of given) booted events (Some j)) (sym (run_verdict judged other same)) h)
 
 run_needs_by : (cut : Bool) (task : SearchTask) (given : Given) (events : List Event) (judged : Judged) → IsRunTold cut task given events (Some (told_of judged)) →
-    IsJudgedAt task given events (Some judged)
+    IsJudgedAt given events (Some judged)
 run_needs_by true task given events judged h = (h.0, h.1, h.2.0)
 run_needs_by false task given events judged h = same_judged task given events judged h.0 h.1 h.2 h.3 h.4
 
 pub run_needs : (cut : Bool) (task : SearchTask) (given : Given) (events : List Event) (told : Told) (v : Verdict) → told.verdict ≡ Run v → IsRunTold cut task given events (Some told) →
-    IsJudgedAt task given events (Some (record { verdict = v; events = told.events }))
+    IsJudgedAt given events (Some (record { verdict = v; events = told.events }))
 run_needs cut task given events told v is h =
     run_needs_by cut task given events (record { verdict = v; events = told.events })
     (subst (λ w. IsRunTold cut task given events (Some (record { verdict = w; events = told.events }))) is h)

@@ -5,20 +5,17 @@ use Rattle.m161_delays.specs.Runs.{AreThose, IsUsefulOf}
 use Rattle.m161_jobs.specs.Trials.{AreRight}
 use Rattle.m161_drive.specs.Choice.{cursor_at}
 use Rattle.m161_judge.specs.declared.run.JudgedRun.{JudgedRun}
-use Rattle.m161_judge.specs.Run.{IsRun}
-use Rattle.m161_machine.specs.History.{IsBootState}
 use Rattle.m161_machine.specs.State.{State}
 use Rattle.m161_order.specs.declared.delays.Delays.{Delays}
-use Rattle.m161_order.specs.declared.order.Order.{Order}
 use Rattle.m161_order.specs.declared.order.Order.TheVariants.{Delayed}
 use Rattle.m161_order.specs.Delays.{delays_of}
 use Rattle.m161_places.specs.Laws.{offered}
-use Rattle.s161_base.specs.Sizes.{conf_of}
 use Rattle.s161_command.specs.declared.class.DelayClass.{DelayClass}
 use Rattle.s161_command.specs.declared.task.SearchTask.{SearchTask}
 use Rattle.s161_run.specs.Driven.{rules_of}
 use Rattle.s161_search.specs.declared.told.Told.{Told}
-use Rattle.s161_search.specs.Given.{Given, criteria_of}
+use Rattle.s161_search.specs.Given.{Given}
+use Rattle.s161_search.specs.Runs.{IsBehindFirst, IsRunOf, most_of}
 use Rattle.s161_search.specs.Told.{IsRunTold}
 
 -- The runs that a search by delays makes.
@@ -27,18 +24,12 @@ use Rattle.s161_search.specs.Told.{IsRunTold}
 abbrev pub class_of : DelayClass → Class
 class_of class = record { most = class.most; from = class.from; within = class.within }
 
--- the run by an order, and its verdict
-abbrev pub IsRunOf : SearchTask → Given → Order → JudgedRun → Type 0
-IsRunOf task given order run =
-    IsRun given.file (conf_of task.size) (rules_of (record task.drive { order = order }) given.keys)
-    task.drive.events (criteria_of given) run
-
 -- how many processors are ready at each place of the run of a list, by turns of so many Steps, from the
--- state at boot on
+-- state behind the events that come first
 abbrev pub offered_by : SearchTask → Given → ℕ → State → List ℕ → List ℕ
-offered_by task given steps booted =
-    offered task.drive.events (rules_of task.drive given.keys) (slice_get given.keys)
-    (record { steps = steps; made = 0 }) (cursor_at (rules_of task.drive given.keys) booted) booted
+offered_by task given steps u =
+    offered (most_of task given) (rules_of task.drive given.keys) (slice_get given.keys)
+    (record { steps = steps; made = 0 }) (cursor_at (rules_of task.drive given.keys) u) u
 
 -- the run of a list has no verdict, and is cut or isn't
 abbrev pub HasRightRun : SearchTask → Given → ℕ → List ℕ → Bool → Type 0
@@ -58,10 +49,10 @@ IsRightBy task given steps delays =
 pub record AreCleanBy
     (task : SearchTask) (given : Given) (steps : ℕ) (class : Class) (runs cut : ℕ) : Type 0 where
   pub each : (delays : Delays) → IsOf class (delays_of delays) → IsRightBy task given steps delays
-  pub booted : State
-  pub is_booted : IsBootState given.file (conf_of task.size) booted
+  pub start : State
+  pub is_start : IsBehindFirst given start
   pub lists : List (List ℕ)
-  pub are_useful : AreThose (IsUsefulOf class (offered_by task given steps booted)) lists
+  pub are_useful : AreThose (IsUsefulOf class (offered_by task given steps start)) lists
   pub all_cut : ℕ
   pub are_right : AreRight (HasRightRun task given steps) lists all_cut
   pub runs_is : runs ≡ length lists % 2 ^ 64
@@ -71,9 +62,9 @@ pub record AreCleanBy
 pub record IsFirstBy
     (task : SearchTask) (given : Given) (steps : ℕ) (class : Class) (numbers : List ℕ) (run : JudgedRun)
     (told : Told) : Type 0 where
-  pub booted : State
-  pub is_booted : IsBootState given.file (conf_of task.size) booted
-  pub is_useful : IsUsefulOf class (offered_by task given steps booted) numbers
+  pub start : State
+  pub is_start : IsBehindFirst given start
+  pub is_useful : IsUsefulOf class (offered_by task given steps start) numbers
   pub delays : Delays
   pub delays_are : delays_of delays ≡ numbers
   pub is_run : IsRunOf task given (Delayed steps delays) run

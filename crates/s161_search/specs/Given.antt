@@ -1,30 +1,34 @@
-use Rattle.std.specs.Prelude.{◌≡◌, ℕ, List, [], ◌∷◌, ◌++◌, flat_map, Option, None, Some, IfSome}
+use Rattle.std.specs.Prelude.{◌≡◌, ◌⊎◌, ℕ, List, [], ◌∷◌, ◌++◌, flat_map, Option, None, Some}
 use Rattle.std.proofs.Common.{Bor}
 use Rattle.m161_audit.specs.declared.watch.Watch.{Watch}
 use Rattle.m161_audit.specs.WatchText.{AreWatchLines}
+use Rattle.m161_judge.specs.Begun.{keys_in}
 use Rattle.m161_judge.specs.Verdict.{Criteria}
+use Rattle.m161_machine.specs.declared.conf.Conf.{Conf}
+use Rattle.m161_machine.specs.declared.event.Event.{Event}
 use Rattle.m161_text.specs.Lines.{FirstBad}
 use Rattle.s161_command.specs.declared.task.SearchTask.{SearchTask}
-use Rattle.s161_base.specs.Asked.{image_files, option_files}
-use Rattle.s161_base.specs.declared.fault.Fault.{Fault}
+use Rattle.s161_base.specs.Asked.{option_files}
 use Rattle.s161_base.specs.Known.{OfKnown, OfText}
-use Rattle.s161_base.specs.Reading.{IsFileUnread, IsOfText}
 use Rattle.s161_search.specs.Audits.{OfWatches}
-use Rattle.s161_run.specs.Driven.{AreKeys}
+use Rattle.s161_run.specs.Driven.{AreInputs, order_files}
 
 -- What a search reads.
 
--- its files, in the order in which they are read: the image's, and of the options that are given those
--- of the keys, the watches and the output
+-- its files, in the order in which they are read: those of a run by an order, and of the options that are
+-- given those of the watches and the output
 abbrev pub search_files : SearchTask → List (List ℕ)
 search_files task =
-    image_files task.image.now
-    ++ flat_map option_files (task.drive.keys ∷ task.watches ∷ task.output ∷ [])
+    order_files task.image.now task.drive ++ flat_map option_files (task.watches ∷ task.output ∷ [])
 
--- the image, the keys that are typed, and by what runs are judged
+-- the image, the events that come first, the machine, the keys that an order types, and by what runs are
+-- judged: all keys are those of the first events and of the order
 pub record Given : Type 0 where
   pub file : List ℕ
+  pub first : List Event
+  pub conf : Conf
   pub keys : List ℕ
+  pub all_keys : List ℕ
   pub watches : List Watch
   pub never : List ℕ
   pub output : Option (List ℕ)
@@ -34,7 +38,7 @@ criteria_of given = record {
   watches = given.watches;
   never = given.never;
   output = given.output;
-  keys = given.keys;
+  keys = given.all_keys;
 }
 
 -- the watches are those of the file of a name, as far as its bytes are known, or none without a name
@@ -49,20 +53,19 @@ abbrev pub IsOutputOf :
 IsOutputOf None files output = output ≡ None
 IsOutputOf (Some name) files output = OfKnown (files name.now) (λ bytes. output ≡ Some bytes)
 
+-- all keys are those of the first events, and behind them those that an order types
+abbrev pub AreAllKeys : Given → Type 0
+AreAllKeys given = given.all_keys ≡ keys_in given.first ++ given.keys
+
 -- all of it but the addresses; the files have these bytes, and that of the image, as far as they are known
 pub record IsRead
     (task : SearchTask) (files : List ℕ → Option (List ℕ)) (image : Option (List ℕ)) (given : Given)
     : Type 0 where
-  pub is_file : IfSome image (λ bytes. given.file ≡ bytes)
-  pub are_keys : AreKeys task.drive.keys files given.keys
+  pub are_inputs :
+      AreInputs task.size task.drive files image given.file given.keys given.first given.conf
+  pub are_all : AreAllKeys given
   pub are_watches : AreWatchesOf task.watches files given.watches
   pub is_output : IsOutputOf task.output files given.output
-
--- a fault is that of the file of the watches, which is a text
-abbrev pub IsWatchesFile :
-    Option (Bor (List ℕ)) → (List ℕ → Option (List ℕ)) → Fault → Type 0
-IsWatchesFile None files fault = ⊥
-IsWatchesFile (Some name) files fault = IsFileUnread name (IsOfText (files name.now)) fault
 
 -- the text of the watches has this first bad line
 abbrev pub IsBadLine : Option (Bor (List ℕ)) → (List ℕ → Option (List ℕ)) → ℕ → Type 0

@@ -1,7 +1,9 @@
 pub mod Audits
 pub mod Given
+pub mod Runs
 pub mod Told
 pub mod Never
+pub mod Notes
 pub mod Seeds
 pub mod Delays
 pub mod Texts

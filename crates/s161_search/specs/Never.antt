@@ -3,7 +3,6 @@ use Rattle.m161_audit.specs.Watch.{AreGood}
 use Rattle.m161_debug.specs.Commands.{IsPlace}
 use Rattle.m161_machine.specs.History.{boot_fault}
 use Rattle.s161_base.specs.Naming.{image_symbols}
-use Rattle.s161_base.specs.Sizes.{conf_of}
 use Rattle.s161_command.specs.declared.task.SearchTask.{SearchTask}
 use Rattle.s161_search.specs.Given.{Given}
 
@@ -33,5 +32,5 @@ pub record IsUnknown (symbols : List (List ℕ × ℕ)) (words : List (List ℕ)
 pub record LacksAddress (task : SearchTask) (never : List (List ℕ)) (given : Given) (word : List ℕ)
     : Type 0 where
   pub is_unknown : IsUnknown (symbols_in task given) never word
-  pub boots : boot_fault given.file (conf_of task.size) ≡ None
-  pub good : (k : ℕ) → AreGood task.size.ram given.watches k
+  pub boots : boot_fault given.file given.conf ≡ None
+  pub good : (k : ℕ) → AreGood given.conf.ram given.watches k

@@ -1,4 +1,4 @@
-use Rattle.std.specs.Prelude.{◌≡◌, ◌⊎◌, ℕ, ◌==◌, Bool, true, false, List, take, Option, None, Some, option_map}
+use Rattle.std.specs.Prelude.{◌≡◌, ◌⊎◌, ℕ, ◌-◌, ◌==◌, nat_lt, if◌then◌else◌, Bool, true, false, List, ◌++◌, length, take, drop, Option, None, Some}
 use Rattle.m161_judge.specs.declared.run.JudgedRun.{JudgedRun}
 use Rattle.m161_judge.specs.declared.verdict.Judged.{Judged}
 use Rattle.m161_judge.specs.declared.verdict.Verdict.TheVariants.{Stale, Reached, Conflict, Stuck, Output as OutputVerdict, End}
@@ -10,18 +10,18 @@ use Rattle.m161_shorten.specs.declared.judged.Judgement.{Judgement}
 use Rattle.m161_shorten.specs.Passes.{Shortens}
 use Rattle.m161_text.specs.Lines.{with_line_end}
 use Rattle.s161_base.specs.declared.fault.Fault.{Fault}
-use Rattle.s161_base.specs.declared.fault.Fault.TheVariants.{Conf, File, Image, Memory, Never, Watch, Watches}
-use Rattle.s161_base.specs.Reading.{IsOfBytes}
-use Rattle.s161_base.specs.Samples.{IsFileName}
-use Rattle.s161_base.specs.Sizes.{conf_of}
+use Rattle.s161_base.specs.declared.fault.Fault.TheVariants.{After, Conf, File, Image, Log, LogImage, LogMachine, Memory, Never, Schedule, Watch, Watches}
+use Rattle.s161_base.specs.Listed.{OfFirst}
+use Rattle.s161_base.specs.Reading.{IsTextUnread}
 use Rattle.s161_command.specs.declared.task.SearchTask.{SearchTask}
-use Rattle.s161_run.specs.Driven.{IsKeysFile}
+use Rattle.s161_run.specs.Driven.{IsKeysFile, IsOrderFault}
 use Rattle.s161_search.specs.declared.told.SearchVerdict.{SearchVerdict}
 use Rattle.s161_search.specs.declared.told.SearchVerdict.TheVariants.{Run, Hung}
 use Rattle.s161_search.specs.declared.told.Told.{Told}
-use Rattle.s161_search.specs.Given.{Given, IsBadLine, IsRead, IsWatchesFile, criteria_of}
+use Rattle.s161_search.specs.Given.{Given, IsBadLine, IsRead, criteria_of}
 use Rattle.s161_search.specs.Never.{AreAddresses, LacksAddress, symbols_in}
-use Rattle.s161_search.specs.Seeds.{AreClean, IsFirstWrong, IsRunFault, seed_at}
+use Rattle.s161_search.specs.Runs.{IsRunFault}
+use Rattle.s161_search.specs.Seeds.{AreClean, IsFirstWrong, seed_at}
 use Rattle.m161_delays.specs.declared.search.Class.{Class}
 use Rattle.m161_order.specs.declared.order.Order.TheVariants.{Turns}
 use Rattle.s161_command.specs.declared.class.DelayClass.{DelayClass}
@@ -32,42 +32,51 @@ use Rattle.s161_search.specs.Told.{IsRunTold, IsToldAt}
 -- The output and the exit status of `search`.
 
 -- the verdict of a list of events, from the state at boot, whether it hangs or not
-abbrev pub IsJudgedAt : SearchTask → Given → List Event → Option Judged → Type 0
-IsJudgedAt task given events judged =
-    (booted : State) × IsBootState given.file (conf_of task.size) booted
+abbrev pub IsJudgedAt : Given → List Event → Option Judged → Type 0
+IsJudgedAt given events judged =
+    (booted : State) × IsBootState given.file given.conf booted
     × IsJudged (criteria_of given) booted events judged
-
--- a verdict, of which only the kind matters
-abbrev pub kind_of : Judged → Judgement ℕ
-kind_of judged = record { kind = rank judged.verdict; needs = judged.events }
 
 -- the kinds of verdicts, by numbers
 abbrev pub kind_number : SearchVerdict → ℕ
 kind_number (Run v) = rank v
 kind_number Hung = 6
 
-abbrev pub hang_with : SearchVerdict → ℕ → Option (Judgement ℕ)
-hang_with (Run v) n = None
-hang_with Hung n = Some (record { kind = kind_number Hung; needs = n })
+-- behind so many events a list has a verdict of this kind, which needs this many of all, if it needs those
+abbrev pub judgement_behind : ℕ → ℕ → ℕ → Option (Judgement ℕ)
+judgement_behind first kind needs =
+    if nat_lt needs first then None else Some (record { kind = kind; needs = needs - first })
 
-abbrev pub HasKind : SearchTask → Given → List Event → Option (Judgement ℕ) → Type 0
-HasKind task given events verdict =
-    (judged : Option Judged) × IsJudgedAt task given events judged
-    × (verdict ≡ option_map kind_of judged)
+-- a verdict of which only the kind matters, behind so many events
+abbrev pub kind_behind : ℕ → Option Judged → Option (Judgement ℕ)
+kind_behind first None = None
+kind_behind first (Some judged) = judgement_behind first (rank judged.verdict) judged.events
 
--- that a list of events hangs, and by how many of them, if that is its verdict
-abbrev pub hang_of : Option Told → Option (Judgement ℕ)
-hang_of None = None
-hang_of (Some told) = hang_with told.verdict told.events
+-- the verdict of events that come first and of this list behind them
+abbrev pub HasKind : Given → List Event → List Event → Option (Judgement ℕ) → Type 0
+HasKind given first events verdict =
+    (judged : Option Judged) × IsJudgedAt given (first ++ events) judged
+    × (verdict ≡ kind_behind (length first) judged)
 
-abbrev pub HasHang : SearchTask → Given → List Event → Option (Judgement ℕ) → Type 0
-HasHang task given events verdict =
-    (told : Option Told) × IsToldAt task given events told × (verdict ≡ hang_of told)
+-- that they hang, and by how many of the list, if that is their verdict
+abbrev pub hang_with : ℕ → SearchVerdict → ℕ → Option (Judgement ℕ)
+hang_with first (Run v) n = None
+hang_with first Hung n = judgement_behind first (kind_number Hung) n
+
+abbrev pub hang_behind : ℕ → Option Told → Option (Judgement ℕ)
+hang_behind first None = None
+hang_behind first (Some told) = hang_with first told.verdict told.events
+
+abbrev pub HasHang : SearchTask → Given → List Event → List Event → Option (Judgement ℕ) → Type 0
+HasHang task given first events verdict =
+    (told : Option Told) × IsToldAt task given (first ++ events) told
+    × (verdict ≡ hang_behind (length first) told)
 
 -- the verdicts by which a list is shortened: of a verdict of a run those of runs
-abbrev pub HasKindOf : SearchVerdict → SearchTask → Given → List Event → Option (Judgement ℕ) → Type 0
-HasKindOf (Run v) = HasKind
-HasKindOf Hung = HasHang
+abbrev pub HasKindOf :
+    SearchVerdict → SearchTask → Given → List Event → List Event → Option (Judgement ℕ) → Type 0
+HasKindOf (Run v) task given = HasKind given
+HasKindOf Hung task given = HasHang task given
 
 -- all events of a run are printed where that is asked for, and where the verdict is `end`
 abbrev pub is_whole : Bool → SearchVerdict → Bool
@@ -79,13 +88,20 @@ is_whole whole (Run OutputVerdict) = whole
 is_whole whole (Run End) = true
 is_whole whole Hung = whole
 
--- the events that are printed of a run with this verdict: all; or what the passes leave of those that
--- the verdict needs, by verdicts of its kind
+-- the events that are printed of those that a verdict needs: as many of them as come first, and what the
+-- passes leave of the rest, by verdicts of its kind
+abbrev pub AreShortened : ℕ → SearchTask → Given → List Event → SearchVerdict → List Event → Type 0
+AreShortened first task given needed verdict printed =
+    (left : List Event) × (printed ≡ take first needed ++ left)
+    × Shortens (λ kind. kind_number verdict == kind) (HasKindOf verdict task given (take first needed))
+    (drop first needed) left
+
+-- the events that are printed of a run with this verdict: all; or those that the verdict needs, shortened
+-- behind the events that come first
 abbrev pub ArePrinted : Bool → SearchTask → Given → List Event → Told → List Event → Type 0
 ArePrinted true task given events told printed = printed ≡ events
 ArePrinted false task given events told printed =
-    Shortens (λ kind. kind_number told.verdict == kind) (HasKindOf told.verdict task given)
-    (take told.events events) printed
+    AreShortened (length given.first) task given (take told.events events) told.verdict printed
 
 -- the schedule of the first run that goes wrong, behind its seed and its verdict; the printed verdict
 -- is that of the printed events, and is of the run's kind
@@ -100,7 +116,7 @@ pub record IsFound (task : SearchTask) (given : Given) (text : List ℕ) : Type 
   pub final : Told
   pub is_told : IsRunTold run.is_cut task given events (Some final)
   pub same_kind : kind_number final.verdict ≡ kind_number told.verdict
-  pub text_is : text ≡ found_text task.size (seed_text (seed_at task.drive.order place)) final.verdict events
+  pub text_is : text ≡ found_text given.conf (seed_text (seed_at task.drive.order place)) final.verdict events
 
 -- none of the runs goes wrong
 abbrev pub IsClean : SearchTask → Given → List ℕ → Type 0
@@ -121,7 +137,7 @@ pub record IsFoundBy
   pub final : Told
   pub is_told : IsRunTold run.is_cut task given events (Some final)
   pub same_kind : kind_number final.verdict ≡ kind_number told.verdict
-  pub text_is : text ≡ found_text task.size (delays_text numbers) final.verdict events
+  pub text_is : text ≡ found_text given.conf (delays_text numbers) final.verdict events
 
 -- none of the runs of a class goes wrong
 abbrev pub IsCleanBy : SearchTask → Given → ℕ → Class → List ℕ → Type 0
@@ -155,24 +171,40 @@ IsSearched task never files image text status =
 abbrev pub IsNotRun :
     SearchTask → (List ℕ → Option (List ℕ)) → Option (List ℕ) → Fault → Type 0
 IsNotRun task files image fault =
-    (given : Given) × IsRead task files image given × IsRunFault task given fault
+    (given : Given) × IsRead task files image given × IsRunFault given fault
 
--- what a fault that ends a search says of its inputs: of a file, that it is the image's, the keys',
--- the watches' or the output's; of the watches, their first bad line; of the configuration, the image
--- or a watch, that all files were read; of a word, that it is the first that stands for no address, and
--- that nothing else is at fault. File and Memory hold whatever else is at fault
+-- the events that come first have no fault
+abbrev pub HasFirst : SearchTask → (List ℕ → Option (List ℕ)) → Option (List ℕ) → Type 0
+HasFirst task files image =
+    OfFirst task.size image task.drive.after files (λ file first conf. Unit {0})
+
+-- what a fault that ends a search says of its inputs: of a file, that it is one of a run by an order, the
+-- watches' or the output's; of the text of the first events, what it says where a run by an order ends; of
+-- the watches, their first bad line, and that the first events have no fault; of the configuration, the
+-- image or a watch, that all files were read; of a word, that it is the first that stands for no address,
+-- and that nothing was at fault before; of a first event that is refused, the same, with addresses for all
+-- words. File and Memory hold whatever else is at fault
 abbrev pub IsSearchFault :
     SearchTask → List (List ℕ) → (List ℕ → Option (List ℕ)) → Option (List ℕ) → Fault → Type 0
 IsSearchFault task never files image (File name why) =
-    ((name.now ≡ task.image.now) × IsFileName task.image.now × IsOfBytes why)
-    ⊎ (IsKeysFile task.drive.keys (File name why)
-    ⊎ (IsWatchesFile task.watches files (File name why)
-    ⊎ IsKeysFile task.output (File name why)))
-IsSearchFault task never files image (Watches n) = IsBadLine task.watches files n
+    IsOrderFault task.image task.size task.drive files image (File name why)
+    ⊎ (IsTextUnread task.watches files (File name why) ⊎ IsKeysFile task.output (File name why))
+IsSearchFault task never files image (Schedule n) =
+    IsOrderFault task.image task.size task.drive files image (Schedule n)
+IsSearchFault task never files image (Log n) =
+    IsOrderFault task.image task.size task.drive files image (Log n)
+IsSearchFault task never files image LogMachine =
+    IsOrderFault task.image task.size task.drive files image LogMachine
+IsSearchFault task never files image LogImage =
+    IsOrderFault task.image task.size task.drive files image LogImage
+IsSearchFault task never files image (Watches n) =
+    HasFirst task files image × IsBadLine task.watches files n
 IsSearchFault task never files image Conf = IsNotRun task files image Conf
 IsSearchFault task never files image (Image e) = IsNotRun task files image (Image e)
 IsSearchFault task never files image (Watch k) = IsNotRun task files image (Watch k)
 IsSearchFault task never files image (Never word) =
     (given : Given) × IsRead task files image given × LacksAddress task never given word.now
+IsSearchFault task never files image (After k why) =
+    (given : Given) × IsGiven task never files image given × IsRunFault given (After k why)
 IsSearchFault task never files image Memory = Unit {0}
 IsSearchFault task never files image _ = ⊥

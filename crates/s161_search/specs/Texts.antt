@@ -8,7 +8,7 @@ use Rattle.m161_text.specs.Lines.{with_line_end}
 use Rattle.m161_text.specs.Parts.{◌␣◌, word_text}
 use Rattle.s161_search.specs.declared.told.SearchVerdict.{SearchVerdict}
 use Rattle.s161_search.specs.declared.told.SearchVerdict.TheVariants.{Run, Hung}
-use Rattle.s161_command.specs.declared.task.Size.{Size}
+use Rattle.m161_machine.specs.declared.conf.Conf.{Conf}
 use Rattle.s161_base.specs.Sizes.{size_line_text}
 use Rattle.s161_search.specs.Audits.{finding_text}
 use Rattle.s161_run.specs.Runs.{conflict_words}
@@ -49,7 +49,7 @@ told_text (Run v) = verdict_text v
 told_text Hung = codes "hung"
 
 -- a schedule that goes wrong: behind its machine line two comments tell the run and the verdict
-abbrev pub found_text : Size → List ℕ → SearchVerdict → List Event → List ℕ
-found_text size run verdict events =
-    size_line_text size ++ with_line_end run ++ with_line_end (codes "#" ␣ told_text verdict)
+abbrev pub found_text : Conf → List ℕ → SearchVerdict → List Event → List ℕ
+found_text conf run verdict events =
+    size_line_text conf ++ with_line_end run ++ with_line_end (codes "#" ␣ told_text verdict)
     ++ schedule_text events

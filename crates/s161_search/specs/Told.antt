@@ -8,7 +8,6 @@ use Rattle.m161_machine.specs.History.{IsBootState}
 use Rattle.m161_machine.specs.State.{State}
 use Rattle.m161_reach.specs.From.{asked_of}
 use Rattle.m161_reach.specs.Hangs.{HangFirst, NeverHang}
-use Rattle.s161_base.specs.Sizes.{conf_of}
 use Rattle.s161_command.specs.declared.task.SearchTask.{SearchTask}
 use Rattle.s161_search.specs.declared.told.SearchVerdict.{SearchVerdict}
 use Rattle.s161_search.specs.declared.told.SearchVerdict.TheVariants.{Run, Hung}
@@ -50,7 +49,7 @@ IsTold few goal s events (Some told) = Tells few goal s events told.verdict told
 -- from the state at boot
 abbrev pub IsToldAt : SearchTask → Given → List Event → Option Told → Type 0
 IsToldAt task given events told =
-    (booted : State) × IsBootState given.file (conf_of task.size) booted
+    (booted : State) × IsBootState given.file given.conf booted
     × IsTold task.hung (criteria_of given) booted events told
 
 -- the verdict of the events of a run, that is cut or isn't. One that isn't cut is over: the machine is off
@@ -61,5 +60,5 @@ told_of judged = record { verdict = Run judged.verdict; events = judged.events }
 abbrev pub IsRunTold : Bool → SearchTask → Given → List Event → Option Told → Type 0
 IsRunTold true task given events told = IsToldAt task given events told
 IsRunTold false task given events told =
-    (booted : State) × (judged : Option Judged) × IsBootState given.file (conf_of task.size) booted
+    (booted : State) × (judged : Option Judged) × IsBootState given.file given.conf booted
     × IsJudged (criteria_of given) booted events judged × (told ≡ option_map told_of judged)

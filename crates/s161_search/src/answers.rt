@@ -12,10 +12,10 @@ use crate::texts::{clean_line, found_lines};
 use crate::told::SearchVerdict;
 use m161_explore::Answer;
 use m161_judge::Verdict as RunVerdict;
-use m161_machine::Event;
+use m161_machine::{Conf, Event};
 use m161_states::{Unknown, Verdict};
 use s161_base::finished::Finished;
-use s161_command::{ExploreTask, Size};
+use s161_command::ExploreTask;
 use std::alloc::{AllocError, Global};
 use std::fmt;
 
@@ -125,15 +125,15 @@ fn open_line(alloc: Global, limit: u32, size: usize) -> Result<String, AllocErro
 // The schedule of a list that goes wrong.
 fn wrong_lines(
     alloc: Global,
-    size: Size,
+    conf: Conf,
     states: u32,
     verdict: SearchVerdict,
     events: &[Event],
 ) -> Result<String, AllocError>
-    ensures { IfOk result (λ lines. string_bytes lines ≡ found_text size (states_text states) verdict events.now) }
+    ensures { IfOk result (λ lines. string_bytes lines ≡ found_text conf (states_text states) verdict events.now) }
 {
     let line = states_line(alloc, states)?;
-    found_lines(alloc, size, line, verdict, events)
+    found_lines(alloc, conf, line, verdict, events)
 }
 
 // A text and an exit status.
@@ -161,13 +161,13 @@ pub(crate) fn limit_of(task: ExploreTask<'_>) -> u32
 /// Memory was refused.
 pub(crate) fn print_answer(
     alloc: Global,
-    size: Size,
+    conf: Conf,
     limit: u32,
     keys: &[u8],
     answer: Answer<Verdict, Unknown>,
 ) -> Result<Finished, AllocError>
     requires { HasEnded answer → ⊥ }
-    ensures prints { IfOk result (λ done. PrintsAnswer size limit keys.now answer done.text.items done.status) }
+    ensures prints { IfOk result (λ done. PrintsAnswer conf limit keys.now answer done.text.items done.status) }
     ensures within { IfOk result (λ done. (done.status ≤ 6) × (done.status ≢ 2)) }
 {
     match answer {
@@ -178,13 +178,13 @@ pub(crate) fn print_answer(
             states,
         } => {
             let verdict = SearchVerdict::Run(at_place(events.len().saturating_sub(1), verdict));
-            let events = events_named(alloc, size.processors, keys, &events)?;
-            Ok(finished(wrong_lines(alloc, size, states, verdict, &events)?, 4))
+            let events = events_named(alloc, conf.processors, keys, &events)?;
+            Ok(finished(wrong_lines(alloc, conf, states, verdict, &events)?, 4))
         }
         Answer::Hung { events, states } => {
-            let events = events_named(alloc, size.processors, keys, &events)?;
+            let events = events_named(alloc, conf.processors, keys, &events)?;
             Ok(finished(
-                wrong_lines(alloc, size, states, SearchVerdict::Hung, &events)?,
+                wrong_lines(alloc, conf, states, SearchVerdict::Hung, &events)?,
                 4,
             ))
         }

@@ -5,21 +5,18 @@ ghost use Rattle.m161_order.specs.declared.order.Order.TheVariants.{Delayed};
 ghost use Rattle.s161_base.specs.declared.fault.Fault.TheVariants as faults;
 ghost use Rattle.s161_run.specs.Driven.{rules_of};
 ghost use Rattle.s161_search.specs.Delays.{class_of};
-ghost use Rattle.s161_search.specs.Seeds.{IsRunFault};
-ghost use Rattle.s161_search.specs.helpers.Telling.{Begins};
-ghost use Rattle.s161_search.specs.helpers.Delayed.{IsFaultFrom};
+ghost use Rattle.s161_search.specs.helpers.Delayed.{BeginsBehind, IsNoMemory};
 ghost use Rattle.s161_search.specs.helpers.Inputs.{given_of};
 ghost use Rattle.s161_search.specs.helpers.Points.{IsPointOf};
 ghost use Rattle.s161_search.specs.helpers.Tried.{IsSearchedBy};
 
-use crate::audit::fault_of_audit;
 use crate::inputs::Inputs;
 use crate::orders::{WrongRun, policy_of, run_from, tested};
 use crate::points::{RunPoint, go_along};
+use crate::start::Start;
 use m161::{Console, Tlb};
 use m161_delays::{Class, Delays, Runs, Searched, Tested, search_lists};
 use m161_drive::Policy;
-use m161_judge::Booted;
 use m161_order::Order;
 use m161_reach::{Machines, hanging_are_made};
 use s161_base::fault::Fault;
@@ -32,8 +29,8 @@ use std::thread::Threads;
 pub(crate) struct DelayedRuns<'a, 'b> {
     /// Where memory comes from.
     pub alloc: Global,
-    /// The state at boot.
-    pub booted: &'b Booted<Tlb, Console>,
+    /// Where they begin.
+    pub start: &'b Start,
     /// What is searched.
     pub task: SearchTask<'a>,
     /// What was read.
@@ -61,8 +58,8 @@ impl<'a, 'b> DelayedRuns<'a, 'b> {
     // A point goes back to the start, from which every list's run goes on.
     fn start_again(&self, point: &mut RunPoint) -> Result<(), Fault<'a>>
         ensures ok { OnOk result ((numbers : List ℕ)
-            → IsPointOf self.now.booted.now self.now.task (given_of self.now.inputs.now) self.now.turns numbers point.new) }
-        ensures err { IfErr result (IsFaultFrom self.now.booted.now self.now.task (given_of self.now.inputs.now)) }
+            → IsPointOf self.now.start.now self.now.task (given_of self.now.inputs.now) self.now.turns numbers point.new) }
+        ensures err { IfErr result IsNoMemory }
     {
         *point = self.start()?;
         Ok(())
@@ -71,7 +68,7 @@ impl<'a, 'b> DelayedRuns<'a, 'b> {
 
 impl<'a, 'b> Runs for DelayedRuns<'a, 'b> {
     ghost use Rattle.s161_search.specs.Delays.{offered_by};
-    ghost use Rattle.s161_search.specs.helpers.Delayed.{IsFaultFrom, IsRightFrom, IsWrongFrom};
+    ghost use Rattle.s161_search.specs.helpers.Delayed.{IsNoMemory, IsRightFrom, IsWrongFrom};
     ghost use Rattle.s161_search.specs.helpers.Inputs.{given_of};
     ghost use Rattle.s161_search.specs.helpers.Offers.{offers_alike};
     ghost use Rattle.s161_search.specs.helpers.Points.{IsPointOf};
@@ -82,29 +79,26 @@ impl<'a, 'b> Runs for DelayedRuns<'a, 'b> {
 
     type Point = RunPoint;
 
-    ghost is_on = { λ r. IsPointOf r.booted.now r.task (given_of r.inputs.now) r.turns };
+    ghost is_on = { λ r. IsPointOf r.start.now r.task (given_of r.inputs.now) r.turns };
 
-    ghost offers = { λ r. offered_by r.task (given_of r.inputs.now) r.turns r.booted.now };
+    ghost offers = { λ r. offered_by r.task (given_of r.inputs.now) r.turns r.start.now.core.value.state };
 
-    ghost right = { λ r. IsRightFrom r.booted.now r.ends.now r.task (given_of r.inputs.now) r.turns };
+    ghost right = { λ r. IsRightFrom r.start.now r.ends.now r.task (given_of r.inputs.now) r.turns };
 
-    ghost wrong = { λ r. IsWrongFrom r.booted.now r.ends.now r.task (given_of r.inputs.now) r.turns };
+    ghost wrong = { λ r. IsWrongFrom r.start.now r.ends.now r.task (given_of r.inputs.now) r.turns };
 
-    ghost fails = { λ r. IsFaultFrom r.booted.now r.task (given_of r.inputs.now) };
+    ghost fails = { λ r. IsNoMemory };
 
     fn offers(&self, delays: &Delays, counts: &mut Vec<u8>) -> Result<(), Fault<'a>> {
         let policy = self.policy(delays)?;
-        let mut core = self.booted.copy_core(self.alloc)?;
-        m161_places::offers(&mut core, &policy, self.task.drive.events, counts)?;
+        let mut core = self.start.core.copy(self.alloc)?;
+        m161_places::offers(&mut core, &policy, self.inputs.most(self.task), counts)?;
         Ok(())
     }
 
     fn start(&self) -> Result<RunPoint, Fault<'a>> {
         let policy = self.policy(&Delays::none())?;
-        match RunPoint::start(self.alloc, self.booted, &policy, &self.inputs.goal()) {
-            Ok(point) => Ok(point),
-            Err(error) => Err(fault_of_audit(error)),
-        }
+        Ok(RunPoint::start(self.alloc, self.start, &policy)?)
     }
 
     fn copy(&self, point: &RunPoint) -> Result<RunPoint, Fault<'a>> {
@@ -134,7 +128,8 @@ impl<'a, 'b> Runs for DelayedRuns<'a, 'b> {
             passed,
             steps,
         } = point;
-        let left = self.task.drive.events.saturating_sub(events.len() as u64);
+        let chosen = events.len().saturating_sub(self.start.events.len());
+        let left = self.inputs.most(self.task).saturating_sub(chosen as u64);
         let more = place.saturating_sub(*passed);
         match go_along(
             core,
@@ -157,6 +152,7 @@ impl<'a, 'b> Runs for DelayedRuns<'a, 'b> {
     fn judge_from(&self, delays: &Delays, point: &RunPoint) -> Result<Tested<WrongRun>, Fault<'a>> {
         let run = run_from(
             self.alloc,
+            self.start,
             self.task,
             self.inputs,
             self.turns,
@@ -172,7 +168,7 @@ impl<'a, 'b> Runs for DelayedRuns<'a, 'b> {
         Fault::Memory
     }
 
-    ghost alike = { λ r. offers_alike r.task (given_of r.inputs.now) r.turns r.booted.now };
+    ghost alike = { λ r. offers_alike r.task (given_of r.inputs.now) r.turns r.start.now.core.value.state };
 }
 
 /// Makes the runs of the useful lists of a class, up to the first that goes wrong.
@@ -182,21 +178,21 @@ impl<'a, 'b> Runs for DelayedRuns<'a, 'b> {
 pub(crate) fn try_lists<'a, R: Threads + Sync>(
     rt: &R,
     alloc: Global,
-    booted: &Booted<Tlb, Console>,
+    start: &Start,
     task: SearchTask<'a>,
     inputs: &Inputs,
     ends: &Machines<'_, Tlb, Console>,
     turns: u32,
     class: DelayClass,
 ) -> Result<Searched<WrongRun>, Fault<'a>>
-    requires begins { Begins task (given_of inputs.now) booted.now ends.now }
+    requires begins { BeginsBehind (given_of inputs.now) start.now ends.now }
     requires few { class.most ≤ 64 }
     ensures ok { IfOk result (IsSearchedBy task.entry (given_of inputs.now) turns (class_of class)) }
-    ensures fault { IfErr result (IsRunFault task.entry (given_of inputs.now)) }
+    ensures fault { IfErr result IsNoMemory }
 {
     let runs = DelayedRuns {
         alloc,
-        booted,
+        start,
         task,
         inputs,
         ends,

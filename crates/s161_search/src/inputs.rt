@@ -1,35 +1,42 @@
 //! What a search reads.
 
-ghost use Rattle.std.specs.Prelude.{◌≡◌, ◌⊎◌, ℕ, [], List, IfErr, IfOk, MatchOption, None, Some, option_map, string_bytes};
+ghost use Rattle.std.specs.Prelude.{◌≡◌, ◌⊎◌, ◌++◌, ◌∷◌, ℕ, [], List, IfErr, IfOk, OnOk, None, Some, option_map, string_bytes};
+ghost use Rattle.m161_judge.specs.Begun.{keys_in};
 ghost use Rattle.m161_judge.specs.Judge.{bytes_of};
 ghost use Rattle.s161_base.specs.Asked.{Asks, AsksFor, option_files};
-ghost use Rattle.s161_base.specs.Known.{IsText};
 ghost use Rattle.s161_base.specs.Samples.{image_file};
 ghost use Rattle.s161_run.specs.Driven.{IsKeysFile};
-ghost use Rattle.s161_search.specs.Given.{IsOutputOf, IsRead, IsWatchesFile, criteria_of, search_files};
+ghost use Rattle.s161_search.specs.Given.{IsOutputOf, IsRead, criteria_of, search_files};
+ghost use Rattle.s161_search.specs.Runs.{most_of};
 ghost use Rattle.s161_search.specs.Told.{ends_of};
 ghost use Rattle.s161_search.specs.helpers.Inputs.{given_of};
 ghost use Rattle.s161_search.specs.Searches.{IsSearchFault};
-ghost use Rattle.s161_search.specs.helpers.Watches.{AreWatchesIn, IsFaultIn, IsTextOf};
+ghost use Rattle.s161_search.specs.helpers.Watches.{AreWatchesIn, IsFaultIn};
 
 use crate::watches::watches_of;
 use m161_audit::Watch;
 use m161_judge::Goal;
-use s161_base::fault::{Fault, Unread};
+use m161_machine::{Event, Events};
+use s161_base::fault::Fault;
 use s161_base::files::FileSource;
-use s161_base::input::{read_file, read_text};
+use s161_base::input::{read_file, read_text_if};
+use s161_base::listed::{Planned, plan_first};
 use s161_base::sample::read_image;
 use s161_command::SearchTask;
 use s161_run::policy::read_keys;
-use std::alloc::Global;
+use std::alloc::{AllocError, Global};
 
-/// What a search reads: the image, the keys, and by what runs are judged.
+/// What a search reads: the image, the events that come first, the keys, and by what runs are judged.
 #[derive(Drop)]
 pub(crate) struct Inputs {
     /// The image's bytes.
     pub file: Vec<u8>,
-    /// The bytes that are typed.
+    /// The events that come first, and the machine.
+    pub first: Planned,
+    /// The bytes that an order types.
     pub keys: Vec<u8>,
+    /// All bytes that are typed: those of the first events, and those of an order.
+    pub all_keys: Vec<u8>,
     /// The watches.
     pub watches: Vec<Watch>,
     /// The addresses that no Step is to reach.
@@ -39,6 +46,14 @@ pub(crate) struct Inputs {
 }
 
 impl Inputs {
+    /// How many events an order chooses at most.
+    pub(crate) fn most(&self, task: SearchTask<'_>) -> u64
+        ensures { result ≡ most_of task.entry (given_of self.now) }
+    {
+        let left = 16_777_216u64.saturating_sub(self.first.events.len() as u64);
+        task.drive.events.min(left)
+    }
+
     /// The bytes that the console should send, if any are asked for.
     pub(crate) fn output(&self) -> Option<&[u8]>
         ensures { bytes_of result ≡ (given_of self.now).output }
@@ -57,7 +72,7 @@ impl Inputs {
             watches: &self.watches,
             never: &self.never,
             output: self.output(),
-            keys: &self.keys,
+            keys: &self.all_keys,
         }
     }
 
@@ -69,41 +84,41 @@ impl Inputs {
             watches: &[],
             never: &[],
             output: self.output(),
-            keys: &self.keys,
+            keys: &self.all_keys,
         }
     }
 }
 
-// The text of these bytes, if they are UTF-8.
-fn text_of(bytes: Vec<u8>) -> Option<String>
-    ensures { MatchOption result (¬ IsText bytes.items) (λ text. string_bytes text ≡ bytes.items) }
+// Types the byte of an event, if it is a key.
+fn push_key(keys: &mut Vec<u8>, event: Event) -> Result<(), AllocError>
+    ensures { OnOk result (keys.new.items ≡ keys.old.items ++ keys_in (event ∷ [])) }
 {
-    match String::from_utf8(bytes) {
-        Ok(text) => Some(text),
-        Err(_) => None,
+    match event {
+        Event::Key(byte) => keys.push(byte)?,
+        Event::Step(_) | Event::Done => {}
     }
+    Ok(())
 }
 
-// The text of the watches, if there is one.
-#[tactic(auto, using(crate::proofs::Reading::unread_text, s161_base::proofs::Asking::asks_none))]
-fn read_watches<'a, F: FileSource>(
-    alloc: Global,
-    files: &mut F,
-    name: Option<&'a str>,
-) -> Result<Option<String>, Fault<'a>>
-    ensures whole { IfOk result (λ text.
-        IsTextOf name.entry (F.known files.old) (option_map string_bytes text)) }
-    ensures still { (other : List ℕ) → F.known files.new other ≡ F.known files.old other }
-    ensures asks { Asks (option_files name.entry) (F.asked files.old) (F.asked files.new) }
-    ensures err { IfErr result (λ fault. IsWatchesFile name.entry (F.known files.old) fault
-        ⊎ (fault ≡ Fault.Memory)) }
+// The bytes that events type.
+fn keys_in(alloc: Global, events: &[Event]) -> Result<Vec<u8>, AllocError>
+    ensures { IfOk result (λ keys. keys.items ≡ keys_in events.now) }
 {
-    let Some(name) = name else { return Ok(None) };
-    let bytes = read_file(alloc, files, name)?;
-    match text_of(bytes) {
-        Some(text) => Ok(Some(text)),
-        None => Err(Fault::File(name, Unread::NotUtf8)),
+    let mut keys = Vec::new(alloc);
+    for event in events {
+        push_key(&mut keys, *event)?;
     }
+    Ok(keys)
+}
+
+// All keys: those of the events that come first, and those that an order types.
+fn all_keys(alloc: Global, first: &Events, keys: &[u8]) -> Result<Vec<u8>, AllocError>
+    ensures { IfOk result (λ all. all.items ≡ keys_in first.now ++ keys.now) }
+{
+    let events = first.to_vec(alloc)?;
+    let mut all = keys_in(alloc, &events)?;
+    all.extend_from_slice(keys)?;
+    Ok(all)
 }
 
 // The bytes that the console should send, if any are asked for.
@@ -135,7 +150,8 @@ fn watches_in<'a>(alloc: Global, text: Option<String>) -> Result<Vec<Watch>, Fau
     }
 }
 
-/// Reads the files: the image, the keys, the watches, the output; and then the lines of the watches.
+/// Reads the files: the image, the text of the events that come first, the keys, the watches, the output;
+/// and then the lines of those events and of the watches.
 ///
 /// # Errors
 /// The first fault.
@@ -152,13 +168,18 @@ pub(crate) fn read_inputs<'a, F: FileSource>(
         (F.asked files.new) }
 {
     let file = read_image(alloc, files, task.image)?;
+    let after = read_text_if(alloc, files, task.drive.after)?;
     let keys = read_keys(alloc, files, task.drive.keys)?;
-    let text = read_watches(alloc, files, task.watches)?;
+    let text = read_text_if(alloc, files, task.watches)?;
     let output = read_output(alloc, files, task.output)?;
+    let first = plan_first(alloc, task.size, &file, after.as_deref())?;
     let watches = watches_in(alloc, text)?;
+    let all_keys = all_keys(alloc, &first.events, &keys)?;
     Ok(Inputs {
         file,
+        first,
         keys,
+        all_keys,
         watches,
         never: Vec::new(alloc),
         output,

@@ -4,8 +4,7 @@ ghost use Rattle.std.specs.Prelude.{◌≡◌, ◌++◌, ◌∷◌, [], ℕ, IfE
 ghost use Rattle.m161_audit.specs.Watch.{AreGood};
 ghost use Rattle.m161_debug.specs.Commands.{IsPlace};
 ghost use Rattle.s161_search.specs.Never.{AreAddresses};
-ghost use Rattle.s161_search.specs.Seeds.{IsRunFault};
-ghost use Rattle.s161_search.specs.helpers.Begun.{BeginsAt};
+ghost use Rattle.s161_search.specs.helpers.Begun.{BeginsAt, IsBareFault};
 ghost use Rattle.s161_search.specs.helpers.Inputs.{given_of};
 ghost use Rattle.s161_search.specs.helpers.Never.{HasNever, IsNeverFault, IsNoAddress, IsWordFault};
 
@@ -27,12 +26,11 @@ use std::alloc::{AllocError, Global};
 pub(crate) fn check_watches<'a>(
     alloc: Global,
     booted: &Booted<Tlb, Console>,
-    task: SearchTask<'a>,
     inputs: &Inputs,
 ) -> Result<(), Fault<'a>>
-    requires { BeginsAt task (given_of inputs.now) booted.now }
-    ensures good { IfOk result (λ _. (k : ℕ) → AreGood task.entry.size.ram (given_of inputs.now).watches k) }
-    ensures fault { IfErr result (IsRunFault task.entry (given_of inputs.now)) }
+    requires { BeginsAt (given_of inputs.now) booted.now }
+    ensures good { IfOk result (λ _. (k : ℕ) → AreGood (given_of inputs.now).conf.ram (given_of inputs.now).watches k) }
+    ensures fault { IfErr result (IsBareFault (given_of inputs.now)) }
 {
     match judge_events(alloc, booted, &[], &inputs.goal()) {
         Ok(_) => Ok(()),
@@ -81,6 +79,7 @@ fn addresses_of<'a>(
 ///
 /// # Errors
 /// A watch is bad; or the first word that stands for no address; or memory was refused.
+#[tactic(auto, using(crate::proofs::Failing::bare_is_never))]
 pub(crate) fn with_never<'a>(
     alloc: Global,
     booted: &Booted<Tlb, Console>,
@@ -88,7 +87,7 @@ pub(crate) fn with_never<'a>(
     words: &[&'a str],
     inputs: Inputs,
 ) -> Result<Inputs, Fault<'a>>
-    requires { BeginsAt task (given_of inputs) booted.now }
+    requires { BeginsAt (given_of inputs) booted.now }
     ensures ok { IfOk result (HasNever task.entry (map (λ word. word.now) words.now) (given_of inputs)) }
     ensures err { IfErr result (IsNeverFault task.entry (map (λ word. word.now) words.now) (given_of inputs)) }
 {
@@ -98,7 +97,7 @@ pub(crate) fn with_never<'a>(
             ..inputs
         });
     }
-    check_watches(alloc, booted, task, &inputs)?;
+    check_watches(alloc, booted, &inputs)?;
     let symbols = image_symbols(alloc, task.image, &inputs.file)?;
     let never = addresses_of(alloc, &symbols, words)?;
     Ok(Inputs { never, ..inputs })

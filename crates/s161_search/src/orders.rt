@@ -1,24 +1,29 @@
 //! A run by an order.
 
-ghost use Rattle.std.specs.Prelude.{◌≡◌, IfErr, IfOk};
+ghost use Rattle.std.specs.Prelude.{◌≡◌, IfErr, IfOk, List};
+ghost use Rattle.m161_judge.specs.Begun.{AreKeysBehind, IsBegun, IsFirstOf, IsRunBehind};
+ghost use Rattle.m161_judge.specs.Memory.{IsKeptOf};
+ghost use Rattle.m161_machine.specs.declared.event.Event.{Event as EventValue};
 ghost use Rattle.m161_order.specs.declared.order.Order.TheVariants.{Delayed};
 ghost use Rattle.m161_machine.specs.State.{State};
 ghost use Rattle.m161_order.specs.Delays.{delays_of};
 ghost use Rattle.s161_base.specs.declared.fault.Fault.TheVariants as faults;
 ghost use Rattle.s161_run.specs.Driven.{rules_of};
-ghost use Rattle.s161_search.specs.helpers.Delayed.{IsFaultFrom, IsRunFrom, IsTested};
+ghost use Rattle.s161_search.specs.helpers.Delayed.{IsNoMemory, IsRunFrom, IsTested};
+ghost use Rattle.s161_search.specs.Given.{criteria_of};
+ghost use Rattle.s161_search.specs.Runs.{most_of};
 ghost use Rattle.s161_search.specs.helpers.Inputs.{given_of};
 ghost use Rattle.s161_search.specs.helpers.Points.{IsPointOf};
 ghost use Rattle.s161_search.specs.helpers.Telling.{TellsRun};
 
-use crate::audit::fault_of_audit;
 use crate::inputs::Inputs;
-use crate::points::RunPoint;
+use crate::points::{BegunRun, RunPoint};
+use crate::start::Start;
 use crate::told::{Told, tell, told_of};
 use m161::{Console, Tlb};
-use m161_drive::Policy;
+use m161_drive::{Cursor, Policy};
 use m161_jobs::Tested;
-use m161_judge::{Booted, JudgedRun, judge_booted, judge_rest};
+use m161_judge::{First, JudgedRun, judge_rest};
 use m161_order::{Delays, Order};
 use m161_reach::Machines;
 use s161_base::fault::Fault;
@@ -87,43 +92,76 @@ pub(crate) fn policy_of<'a, 'b>(
     }
 }
 
-/// Makes and judges a run by an order.
+// Goes on with a run that was begun, and judges the whole of it.
+fn judge_begun<'a>(
+    task: SearchTask<'a>,
+    inputs: &Inputs,
+    first: First,
+    policy: &Policy,
+    cursor: Cursor,
+    begun: BegunRun,
+) -> Result<JudgedRun, Fault<'a>>
+    ensures ok { IfOk result (λ run. (s u : State) (fs : List EventValue)
+        → IsFirstOf (criteria_of (given_of inputs.now)) s fs u first
+        → AreKeysBehind (criteria_of (given_of inputs.now)) fs u policy.now
+        → IsBegun policy.now (most_of task.entry (given_of inputs.now)) fs u cursor begun.core.value.state begun.events.items
+        → IsKeptOf (criteria_of (given_of inputs.now)) s begun.events.items begun.steps
+        → IsRunBehind policy.now (most_of task.entry (given_of inputs.now)) (criteria_of (given_of inputs.now)) s fs u run) }
+    ensures fault { IfErr result IsNoMemory }
+{
+    let mut core = begun.core;
+    let n = inputs.most(task);
+    match judge_rest(
+        &mut *core,
+        policy,
+        cursor,
+        n,
+        first,
+        begun.events,
+        begun.steps,
+        &inputs.goal(),
+    ) {
+        Ok(run) => Ok(run),
+        Err(_) => Err(Fault::Memory),
+    }
+}
+
+/// Makes and judges a run by an order, behind a start.
 ///
 /// # Errors
-/// The run can't be made.
+/// Memory was refused.
 pub(crate) fn run_order<'a>(
     alloc: Global,
-    booted: &Booted<Tlb, Console>,
+    start: &Start,
     task: SearchTask<'a>,
     inputs: &Inputs,
     order: Order,
 ) -> Result<JudgedRun, Fault<'a>>
-    ensures ok { IfOk result (IsRunFrom booted.now task.entry (given_of inputs.now) order) }
-    ensures fault { IfErr result (IsFaultFrom booted.now task.entry (given_of inputs.now)) }
+    ensures ok { IfOk result (IsRunFrom start.now task.entry (given_of inputs.now) order) }
+    ensures fault { IfErr result IsNoMemory }
 {
     let policy = policy_of(task, inputs, order)?;
-    match judge_booted(alloc, booted, &policy, task.drive.events, &inputs.goal()) {
-        Ok(run) => Ok(run),
-        Err(error) => Err(fault_of_audit(error)),
-    }
+    let begun = start.copy_run(alloc)?;
+    let cursor = Cursor::new(&policy, &*begun.core);
+    judge_begun(task, inputs, start.first, &policy, cursor, begun)
 }
 
 /// The same run by turns with delays, from one of its points on.
 ///
 /// # Errors
-/// The run can't be made.
+/// Memory was refused.
 pub(crate) fn run_from<'a>(
     alloc: Global,
+    start: &Start,
     task: SearchTask<'a>,
     inputs: &Inputs,
     turns: u32,
     delays: &Delays,
     point: &RunPoint,
 ) -> Result<JudgedRun, Fault<'a>>
-    ensures ok { IfOk result (λ run. (s : State) → IsPointOf s task.entry (given_of inputs.now) turns (delays_of delays.now) point.now
-        → IsRunFrom s task.entry (given_of inputs.now) (Delayed turns delays.now) run) }
-    ensures fault { IfErr result (λ fault. (s : State) → IsPointOf s task.entry (given_of inputs.now) turns (delays_of delays.now) point.now
-        → IsFaultFrom s task.entry (given_of inputs.now) fault) }
+    ensures ok { IfOk result (λ run. IsPointOf start.now task.entry (given_of inputs.now) turns (delays_of delays.now) point.now
+        → IsRunFrom start.now task.entry (given_of inputs.now) (Delayed turns delays.now) run) }
+    ensures fault { IfErr result IsNoMemory }
 {
     let order = Order::Delayed {
         turns,
@@ -133,19 +171,6 @@ pub(crate) fn run_from<'a>(
     let Some(cursor) = point.cursor_of(delays) else {
         return Err(Fault::Memory);
     };
-    let run = point.copy_run(alloc)?;
-    let mut core = run.core;
-    let n = task.drive.events;
-    match judge_rest(
-        &mut *core,
-        &policy,
-        cursor,
-        n,
-        run.events,
-        run.steps,
-        &inputs.goal(),
-    ) {
-        Ok(run) => Ok(run),
-        Err(error) => Err(fault_of_audit(error)),
-    }
+    let begun = point.copy_run(alloc)?;
+    judge_begun(task, inputs, start.first, &policy, cursor, begun)
 }

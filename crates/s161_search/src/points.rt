@@ -1,21 +1,20 @@
 //! Points of the runs of lists of delays.
 
-ghost use Rattle.std.specs.Prelude.{◌≡◌, ◌≢◌, [], IfErr, IfOk, IfSome, MatchOption, OnOk, slice_get};
+ghost use Rattle.std.specs.Prelude.{◌≡◌, ◌≢◌, IfOk, IfSome, MatchOption, OnOk, slice_get};
 ghost use Rattle.m161_drive.specs.declared.orders.OrderState.TheVariants.{ByDelays};
 ghost use Rattle.m161_drive.specs.Choice.{cursor_at};
 ghost use Rattle.m161_drive.specs.Delayed.{DelayState};
 ghost use Rattle.m161_drive.specs.GoingOn.{IsWithLeft};
-ghost use Rattle.m161_judge.specs.Judge.{IsUnjudged};
-ghost use Rattle.m161_judge.specs.Memory.{IsKeptOf};
 ghost use Rattle.m161_order.specs.Delays.{behind, delays_of};
 ghost use Rattle.m161_places.specs.Going.{PassesNoting};
 ghost use Rattle.s161_search.specs.helpers.Inputs.{given_of};
 ghost use Rattle.s161_search.specs.helpers.Points.{KeepsFrom};
 
 use crate::inputs::Inputs;
+use crate::start::Start;
 use m161::{Console, Tlb};
 use m161_drive::{Cursor, Policy};
-use m161_judge::{AuditError, Booted, Event, Goal, StepMemory};
+use m161_judge::{Booted, Event, StepMemory};
 use m161_machine::Core;
 use m161_order::Delays;
 use std::alloc::{AllocError, Global};
@@ -46,8 +45,11 @@ pub(crate) struct BegunRun {
     pub steps: StepMemory<Tlb, Console>,
 }
 
-// Keeps of the Steps of a run what it takes to judge the rest: these are all of its events so far.
-fn keep_on(
+/// Keeps of the Steps of a run what it takes to judge the rest: these are all of its events so far.
+///
+/// # Errors
+/// Memory was refused.
+pub(crate) fn keep_on(
     steps: &mut StepMemory<Tlb, Console>,
     events: &[Event],
     inputs: &Inputs,
@@ -85,8 +87,11 @@ pub(crate) fn go_along(
     Ok(made)
 }
 
-// The same events again.
-fn copy_events(alloc: Global, events: &[Event]) -> Result<Vec<Event>, AllocError>
+/// The same events again.
+///
+/// # Errors
+/// Memory was refused.
+pub(crate) fn copy_events(alloc: Global, events: &[Event]) -> Result<Vec<Event>, AllocError>
     ensures { IfOk result (λ copy. copy.items ≡ events.now) }
 {
     let mut copy = Vec::with_capacity(alloc, events.len())?;
@@ -109,30 +114,48 @@ pub(crate) fn start_core(
     Ok(Box::new(alloc, booted.copy_core(alloc)?)?)
 }
 
-impl RunPoint {
-    /// The point before the first event.
+impl Start {
+    /// The machine, the events and what is kept of their Steps again, to go on with.
     ///
     /// # Errors
-    /// The first bad watch; or memory was refused.
+    /// Memory was refused.
+    pub(crate) fn copy_run(&self, alloc: Global) -> Result<BegunRun, AllocError>
+        ensures { IfOk result (λ run. (run.core.value.state ≡ self.now.core.value.state) × (run.events.items ≡ self.now.events.items)
+            × (run.steps ≡ self.now.steps)) }
+    {
+        let core = Box::new(alloc, self.core.copy(alloc)?)?;
+        let events = copy_events(alloc, &self.events)?;
+        let steps = self.steps.copy(alloc)?;
+        Ok(BegunRun {
+            core,
+            events,
+            steps,
+        })
+    }
+}
+
+impl RunPoint {
+    /// The point before the first event of an order.
+    ///
+    /// # Errors
+    /// Memory was refused.
     pub(crate) fn start(
         alloc: Global,
-        booted: &Booted<Tlb, Console>,
+        start: &Start,
         policy: &Policy,
-        goal: &Goal,
-    ) -> Result<RunPoint, AuditError>
-        ensures ok { IfOk result (λ point. (point.core.value.state ≡ booted.now) × (point.cursor ≡ cursor_at policy.now booted.now)
-            × (point.events.items ≡ []) × (point.passed ≡ 0) × IsKeptOf goal.now booted.now [] point.steps) }
-        ensures err { IfErr result (IsUnjudged booted.now.conf goal.now.watches) }
+    ) -> Result<RunPoint, AllocError>
+        ensures { IfOk result (λ point. (point.core.value.state ≡ start.now.core.value.state)
+            × (point.cursor ≡ cursor_at policy.now start.now.core.value.state)
+            × (point.events.items ≡ start.now.events.items) × (point.passed ≡ 0) × (point.steps ≡ start.now.steps)) }
     {
-        let steps = StepMemory::new(alloc, booted, goal)?;
-        let core = start_core(alloc, booted)?;
-        let cursor = Cursor::new(policy, &*core);
+        let run = start.copy_run(alloc)?;
+        let cursor = Cursor::new(policy, &*run.core);
         Ok(RunPoint {
-            core,
+            core: run.core,
             cursor,
-            events: Vec::new(alloc),
+            events: run.events,
             passed: 0,
-            steps,
+            steps: run.steps,
         })
     }
 

@@ -6,12 +6,13 @@ ghost use Rattle.m161_order.specs.Delays.{delays_of};
 ghost use Rattle.s161_command.specs.Classes.{HasClassLimits};
 ghost use Rattle.s161_base.specs.Asked.{AsksFor};
 ghost use Rattle.s161_base.specs.Samples.{image_file};
-ghost use Rattle.s161_search.specs.Given.{search_files};
-ghost use Rattle.s161_search.specs.helpers.Begun.{BeginsAt};
+ghost use Rattle.s161_search.specs.Given.{AreAllKeys, search_files};
+ghost use Rattle.s161_search.specs.helpers.Begun.{BeginsAt, IsStarted};
 ghost use Rattle.s161_search.specs.helpers.Inputs.{given_of};
 ghost use Rattle.s161_search.specs.helpers.Never.{IsNeverFault, PrintsFor};
 ghost use Rattle.s161_search.specs.Searches.{IsFound, IsSearched, IsSearchFault, Prints};
-ghost use Rattle.s161_search.specs.Seeds.{IsFirstWrong, IsRunFault};
+ghost use Rattle.s161_search.specs.Runs.{IsRunFault};
+ghost use Rattle.s161_search.specs.Seeds.{IsFirstWrong};
 ghost use Rattle.s161_search.specs.Told.{IsRunTold};
 ghost use Rattle.s161_search.specs.helpers.Telling.{Begins};
 ghost use Rattle.s161_search.specs.helpers.Tried.{IsListed};
@@ -23,6 +24,7 @@ use crate::never::with_never;
 use crate::orders::WrongRun;
 use crate::points::start_core;
 use crate::seeds::{boot, seed_at, try_seeds};
+use crate::start::{Start, make_start};
 use crate::texts::{clean_line, delays_line, found_lines, seed_line};
 use m161::{Console, Tlb};
 use m161_delays::{Delays, Searched};
@@ -38,11 +40,12 @@ use s161_command::{DelayClass, SearchTask};
 use std::alloc::{AllocError, Global};
 use std::thread::Threads;
 
-/// Reads the image, the keys, the watches and then the output, and makes the run of each seed, or of each
-/// useful list of delays, up to the first that goes wrong, whose schedule it prints.
+/// Reads the image, the events that come first, the keys, the watches and then the output, and makes the run
+/// of each seed, or of each useful list of delays, behind those events, up to the first that goes wrong,
+/// whose schedule it prints.
 ///
 /// # Errors
-/// The first fault; an event that is refused is a want of memory.
+/// The first fault; an event of an order that is refused is a want of memory.
 // For LLVM: a stack frame of its own.
 #[inline(never)]
 pub fn search<'a, R: Threads + Sync, F: FileSource>(
@@ -66,6 +69,7 @@ pub fn search<'a, R: Threads + Sync, F: FileSource>(
 }
 
 // Makes the runs of what was read.
+#[tactic(auto, using(crate::proofs::Failing::bare_is_never))]
 fn search_in<'a, R: Threads + Sync>(
     rt: &R,
     alloc: Global,
@@ -73,12 +77,13 @@ fn search_in<'a, R: Threads + Sync>(
     never: &[&'a str],
     inputs: Inputs,
 ) -> Result<Finished, Fault<'a>>
-    requires { HasClassLimits task.drive.order task.delays }
+    requires class { HasClassLimits task.drive.order task.delays }
+    requires keys { AreAllKeys (given_of inputs) }
     ensures ok { IfOk result (λ done. PrintsFor task.entry (map (λ word. word.now) never.now) (given_of inputs) done.text.items done.status) }
     ensures fault { IfErr result (IsNeverFault task.entry (map (λ word. word.now) never.now) (given_of inputs)) }
     ensures within { IfOk result (λ done. (done.status ≤ 5) × (done.status ≢ 2)) }
 {
-    let booted = boot(alloc, task, &inputs)?;
+    let booted = boot(alloc, &inputs)?;
     let inputs = with_never(alloc, &booted, task, never, inputs)?;
     make_runs(rt, alloc, &booted, task, &inputs)
 }
@@ -91,12 +96,14 @@ fn make_runs<'a, R: Threads + Sync>(
     task: SearchTask<'a>,
     inputs: &Inputs,
 ) -> Result<Finished, Fault<'a>>
-    requires booted { BeginsAt task (given_of inputs.now) booted.now }
+    requires booted { BeginsAt (given_of inputs.now) booted.now }
+    requires keys { AreAllKeys (given_of inputs.now) }
     requires class { HasClassLimits task.drive.order task.delays }
     ensures ok { IfOk result (λ done. Prints task.entry (given_of inputs.now) task.entry.delays done.text.items done.status) }
-    ensures fault { IfErr result (IsRunFault task.entry (given_of inputs.now)) }
+    ensures fault { IfErr result (IsRunFault (given_of inputs.now)) }
     ensures within { IfOk result (λ done. (done.status ≤ 5) × (done.status ≢ 2)) }
 {
+    let start = make_start(alloc, booted, inputs)?;
     let boxed = start_core(alloc, booted)?;
     let core = &*boxed;
     let goal = inputs.ends();
@@ -105,7 +112,7 @@ fn make_runs<'a, R: Threads + Sync>(
         return Err(Fault::Memory);
     }
     let ends = Machines::new(alloc, core, &goal, Known::nothing());
-    make_orders(rt, alloc, booted, task, inputs, &ends)
+    make_orders(rt, alloc, booted, &start, task, inputs, &ends)
 }
 
 // Makes them by seeds or by delays.
@@ -113,19 +120,21 @@ fn make_orders<'a, R: Threads + Sync>(
     rt: &R,
     alloc: Global,
     booted: &Booted<Tlb, Console>,
+    start: &Start,
     task: SearchTask<'a>,
     inputs: &Inputs,
     ends: &Machines<'_, Tlb, Console>,
 ) -> Result<Finished, Fault<'a>>
-    requires begins { Begins task (given_of inputs.now) booted.now ends.now }
+    requires begins { Begins (given_of inputs.now) booted.now ends.now }
+    requires started { IsStarted (given_of inputs.now) booted.now start.now }
     requires class { HasClassLimits task.drive.order task.delays }
     ensures ok { IfOk result (λ done. Prints task.entry (given_of inputs.now) task.entry.delays done.text.items done.status) }
-    ensures fault { IfErr result (IsRunFault task.entry (given_of inputs.now)) }
+    ensures fault { IfErr result (IsRunFault (given_of inputs.now)) }
     ensures within { IfOk result (λ done. (done.status ≤ 5) × (done.status ≢ 2)) }
 {
     match task.delays {
-        Some(class) => by_delays(rt, alloc, booted, task, inputs, ends, class),
-        None => by_seeds(rt, alloc, booted, task, inputs, ends),
+        Some(class) => by_delays(rt, alloc, booted, start, task, inputs, ends, class),
+        None => by_seeds(rt, alloc, booted, start, task, inputs, ends),
     }
 }
 
@@ -134,16 +143,18 @@ fn by_seeds<'a, R: Threads + Sync>(
     rt: &R,
     alloc: Global,
     booted: &Booted<Tlb, Console>,
+    start: &Start,
     task: SearchTask<'a>,
     inputs: &Inputs,
     ends: &Machines<'_, Tlb, Console>,
 ) -> Result<Finished, Fault<'a>>
-    requires begins { Begins task (given_of inputs.now) booted.now ends.now }
+    requires begins { Begins (given_of inputs.now) booted.now ends.now }
+    requires started { IsStarted (given_of inputs.now) booted.now start.now }
     ensures ok { IfOk result (λ done. Prints task.entry (given_of inputs.now) None done.text.items done.status) }
-    ensures fault { IfErr result (IsRunFault task.entry (given_of inputs.now)) }
+    ensures fault { IfErr result (IsRunFault (given_of inputs.now)) }
     ensures within { IfOk result (λ done. (done.status ≤ 5) × (done.status ≢ 2)) }
 {
-    match try_seeds(rt, alloc, booted, task, inputs, ends)? {
+    match try_seeds(rt, alloc, start, task, inputs, ends)? {
         Tried::Clean { cut } => Ok(Finished {
             text: clean_line(alloc, u64::from(task.seeds), u64::from(cut))?.into_bytes(),
             status: 0,
@@ -165,7 +176,7 @@ fn found_text(
     place: u32,
     wrong: WrongRun,
 ) -> Result<Vec<u8>, AllocError>
-    requires begins { Begins task (given_of inputs.now) booted.now ends.now }
+    requires begins { Begins (given_of inputs.now) booted.now ends.now }
     requires first { IsFirstWrong task (given_of inputs.now) place wrong.run wrong.told }
     ensures { IfOk result (λ text. IsFound task.entry (given_of inputs.now) text.items) }
 {
@@ -181,7 +192,13 @@ fn found_text(
         wrong.told,
         wrong.run.events,
     )?;
-    let text = found_lines(alloc, task.size, line, printed.verdict, &printed.events)?;
+    let text = found_lines(
+        alloc,
+        inputs.first.conf,
+        line,
+        printed.verdict,
+        &printed.events,
+    )?;
     Ok(text.into_bytes())
 }
 
@@ -200,19 +217,21 @@ fn by_delays<'a, R: Threads + Sync>(
     rt: &R,
     alloc: Global,
     booted: &Booted<Tlb, Console>,
+    start: &Start,
     task: SearchTask<'a>,
     inputs: &Inputs,
     ends: &Machines<'_, Tlb, Console>,
     class: DelayClass,
 ) -> Result<Finished, Fault<'a>>
-    requires begins { Begins task (given_of inputs.now) booted.now ends.now }
+    requires begins { Begins (given_of inputs.now) booted.now ends.now }
+    requires started { IsStarted (given_of inputs.now) booted.now start.now }
     requires class { HasClassLimits task.drive.order (Some class) }
     ensures ok { IfOk result (λ done. Prints task.entry (given_of inputs.now) (Some class) done.text.items done.status) }
-    ensures fault { IfErr result (IsRunFault task.entry (given_of inputs.now)) }
+    ensures fault { IfErr result (IsRunFault (given_of inputs.now)) }
     ensures within { IfOk result (λ done. (done.status ≤ 5) × (done.status ≢ 2)) }
 {
     let turns = turns_of(task.drive.order);
-    match try_lists(rt, alloc, booted, task, inputs, ends, turns, class)? {
+    match try_lists(rt, alloc, start, task, inputs, ends, turns, class)? {
         Searched::Clean { runs, cut } => Ok(Finished {
             text: clean_line(alloc, runs, cut)?.into_bytes(),
             status: 0,
@@ -234,7 +253,7 @@ fn listed_text(
     delays: &Delays,
     wrong: WrongRun,
 ) -> Result<Vec<u8>, AllocError>
-    requires begins { Begins task (given_of inputs.now) booted.now ends.now }
+    requires begins { Begins (given_of inputs.now) booted.now ends.now }
     requires wrong { IsRunTold wrong.run.is_cut task (given_of inputs.now) wrong.run.events.items (Some wrong.told) }
     ensures { IfOk result (λ text. IsListed task.entry (given_of inputs.now) (delays_of delays.now) wrong text.items) }
 {
@@ -250,6 +269,12 @@ fn listed_text(
         wrong.told,
         wrong.run.events,
     )?;
-    let text = found_lines(alloc, task.size, line, printed.verdict, &printed.events)?;
+    let text = found_lines(
+        alloc,
+        inputs.first.conf,
+        line,
+        printed.verdict,
+        &printed.events,
+    )?;
     Ok(text.into_bytes())
 }

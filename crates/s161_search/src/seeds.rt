@@ -1,22 +1,22 @@
 //! The runs of a search.
 
 ghost use Rattle.std.specs.Prelude.{◌≡◌, IfErr, IfOk};
-ghost use Rattle.s161_search.specs.helpers.Begun.{BeginsAt};
-ghost use Rattle.s161_search.specs.helpers.Telling.{Begins};
+ghost use Rattle.s161_search.specs.helpers.Begun.{BeginsAt, IsBareFault};
+ghost use Rattle.s161_search.specs.helpers.Delayed.{BeginsBehind, IsNoMemory};
 ghost use Rattle.s161_search.specs.helpers.Inputs.{given_of};
-ghost use Rattle.s161_search.specs.Seeds.{IsRunFault, seed_at, seed_of, with_seed};
+ghost use Rattle.s161_search.specs.Seeds.{seed_at, seed_of, with_seed};
 ghost use Rattle.s161_search.specs.helpers.Tried.{IsTried};
 
 use crate::audit::fault_of_audit;
 use crate::inputs::Inputs;
 use crate::orders::{WrongRun, run_order, tested};
+use crate::start::Start;
 use m161::{Console, Tlb};
 use m161_jobs::{Tested, Trials, Tried, try_each};
 use m161_judge::Booted;
 use m161_order::Order;
 use m161_reach::{Machines, hanging_are_made};
 use s161_base::fault::Fault;
-use s161_base::sizes::conf_of;
 use s161_command::SearchTask;
 use std::alloc::Global;
 use std::thread::Threads;
@@ -69,15 +69,11 @@ fn order_at(order: Order, k: u32) -> Order
 ///
 /// # Errors
 /// The image can't be booted.
-pub(crate) fn boot<'a>(
-    alloc: Global,
-    task: SearchTask<'a>,
-    inputs: &Inputs,
-) -> Result<Booted<Tlb, Console>, Fault<'a>>
-    ensures ok { IfOk result (BeginsAt task.entry (given_of inputs.now)) }
-    ensures fault { IfErr result (IsRunFault task.entry (given_of inputs.now)) }
+pub(crate) fn boot<'a>(alloc: Global, inputs: &Inputs) -> Result<Booted<Tlb, Console>, Fault<'a>>
+    ensures ok { IfOk result (BeginsAt (given_of inputs.now)) }
+    ensures fault { IfErr result (IsBareFault (given_of inputs.now)) }
 {
-    match Booted::new(alloc, &inputs.file, conf_of(task.size)) {
+    match Booted::new(alloc, &inputs.file, inputs.first.conf) {
         Ok(booted) => Ok(booted),
         Err(error) => Err(fault_of_audit(error)),
     }
@@ -88,8 +84,8 @@ pub(crate) fn boot<'a>(
 pub(crate) struct SeedRuns<'a, 'b> {
     /// Where memory comes from.
     pub alloc: Global,
-    /// The state at boot.
-    pub booted: &'b Booted<Tlb, Console>,
+    /// Where they begin.
+    pub start: &'b Start,
     /// What is searched.
     pub task: SearchTask<'a>,
     /// What was read.
@@ -99,7 +95,7 @@ pub(crate) struct SeedRuns<'a, 'b> {
 }
 
 impl<'a, 'b> Trials for SeedRuns<'a, 'b> {
-    ghost use Rattle.s161_search.specs.helpers.Delayed.{IsFaultFrom, IsSeedRightFrom, IsSeedWrongFrom};
+    ghost use Rattle.s161_search.specs.helpers.Delayed.{IsNoMemory, IsSeedRightFrom, IsSeedWrongFrom};
     ghost use Rattle.s161_search.specs.helpers.Inputs.{given_of};
 
     type Wrong = WrongRun;
@@ -108,15 +104,15 @@ impl<'a, 'b> Trials for SeedRuns<'a, 'b> {
 
     ghost has = { λ r k. Unit {0} };
 
-    ghost right = { λ r. IsSeedRightFrom r.booted.now r.ends.now r.task (given_of r.inputs.now) };
+    ghost right = { λ r. IsSeedRightFrom r.start.now r.ends.now r.task (given_of r.inputs.now) };
 
-    ghost wrong = { λ r. IsSeedWrongFrom r.booted.now r.ends.now r.task (given_of r.inputs.now) };
+    ghost wrong = { λ r. IsSeedWrongFrom r.start.now r.ends.now r.task (given_of r.inputs.now) };
 
-    ghost fails = { λ r. IsFaultFrom r.booted.now r.task (given_of r.inputs.now) };
+    ghost fails = { λ r. IsNoMemory };
 
     fn judge(&self, place: u32) -> Result<Tested<WrongRun>, Fault<'a>> {
         let order = order_at(self.task.drive.order, place);
-        let run = run_order(self.alloc, self.booted, self.task, self.inputs, order)?;
+        let run = run_order(self.alloc, self.start, self.task, self.inputs, order)?;
         // So that the proof knows that events which hang were all accepted.
         hanging_are_made();
         Ok(tested(self.alloc, self.ends, self.task.hung, run)?)
@@ -134,18 +130,18 @@ impl<'a, 'b> Trials for SeedRuns<'a, 'b> {
 pub(crate) fn try_seeds<'a, R: Threads + Sync>(
     rt: &R,
     alloc: Global,
-    booted: &Booted<Tlb, Console>,
+    start: &Start,
     task: SearchTask<'a>,
     inputs: &Inputs,
     ends: &Machines<'_, Tlb, Console>,
 ) -> Result<Tried<WrongRun>, Fault<'a>>
-    requires begins { Begins task (given_of inputs.now) booted.now ends.now }
+    requires begins { BeginsBehind (given_of inputs.now) start.now ends.now }
     ensures ok { IfOk result (IsTried task.entry (given_of inputs.now)) }
-    ensures fault { IfErr result (IsRunFault task.entry (given_of inputs.now)) }
+    ensures fault { IfErr result IsNoMemory }
 {
     let runs = SeedRuns {
         alloc,
-        booted,
+        start,
         task,
         inputs,
         ends,

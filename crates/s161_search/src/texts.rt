@@ -9,11 +9,10 @@ use crate::audit::ShownFinding;
 use crate::told::SearchVerdict;
 use m161_audit::Finding;
 use m161_judge::Verdict;
-use m161_machine::Event;
+use m161_machine::{Conf, Event};
 use m161_steplog::write_schedule;
 use m161_text::Word;
-use s161_base::sizes::line_of_size;
-use s161_command::Size;
+use s161_base::sizes::line_of_machine;
 use s161_run::events::ShownConflict;
 use std::alloc::{AllocError, Global};
 use std::fmt;
@@ -179,22 +178,22 @@ fn verdict_line(alloc: Global, verdict: SearchVerdict) -> Result<String, AllocEr
     format!(in alloc; "# {shown}\n")
 }
 
-/// The schedule of a run that goes wrong, of a machine of this size, behind the machine line, the line that
+/// The schedule of a run that goes wrong, of this machine, behind the machine line, the line that
 /// tells the run, and that of its verdict.
 ///
 /// # Errors
 /// Memory was refused.
 pub(crate) fn found_lines(
     alloc: Global,
-    size: Size,
+    conf: Conf,
     line: String,
     verdict: SearchVerdict,
     events: &[Event],
 ) -> Result<String, AllocError>
     ensures { IfOk result (λ lines. (run : List ℕ) → string_bytes line ≡ with_line_end run
-        → string_bytes lines ≡ found_text size run verdict events.now) }
+        → string_bytes lines ≡ found_text conf run verdict events.now) }
 {
-    let mut text = line_of_size(alloc, size)?;
+    let mut text = line_of_machine(alloc, conf)?;
     let verdict = verdict_line(alloc, verdict)?;
     let schedule = write_schedule(alloc, events)?;
     text.push_str(line.as_str())?;

@@ -125,7 +125,7 @@ IsResultOf never (Gdb task) files input = λ text told status. ⊥
 IsResultOf never (Search task) files input =
     Silently (IsSearched task never files (image_file files task.image.now))
 IsResultOf never (Explore task) files input =
-    Silently (IsExplored task never files (image_file files task.image.now))
+    IsExplored task never files (image_file files task.image.now)
 IsResultOf never (Replay task) files input =
     Silently (IsReplayed task (image_file files task.image.now) (files task.text.now))
 IsResultOf never (Audit task) files input =

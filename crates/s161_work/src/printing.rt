@@ -125,7 +125,7 @@ fn finish<'a, R: Threads + Wait + Sync, F: FileSource, I: Read>(
         Task::Schedule(task) => finish_schedule(alloc, files, task),
         Task::Console(_) | Task::Trace(_) | Task::Debug(_) | Task::Gdb(_) => unreachable!(),
         Task::Search(task) => search(rt, alloc, files, task, never),
-        Task::Explore(task) => explore(alloc, files, task, never),
+        Task::Explore(task) => explore(alloc, files, task, never, said),
         Task::Replay(task) => replay(alloc, files, task),
         Task::Audit(task) => audit(alloc, files, input, task, said),
         Task::Assemble(task) => finish_assembly(alloc, input, task),

@@ -19,7 +19,6 @@ use Rattle.m161_drive.specs.declared.run.Stop.TheVariants as drive
 use Rattle.m161_drive.specs.Drive.{Drives}
 use Rattle.m161_drive.specs.Policy.{Rules}
 use Rattle.m161_judge.specs.declared.run.JudgedRun.{JudgedRun}
-use Rattle.m161_judge.specs.declared.seen.Seen.{Seen}
 use Rattle.m161_judge.specs.declared.verdict.Judged.{Judged}
 use Rattle.m161_judge.specs.declared.verdict.Verdict.{Verdict}
 use Rattle.m161_judge.specs.declared.verdict.Verdict.TheVariants.{Reached}
@@ -28,27 +27,9 @@ use Rattle.m161_judge.specs.declared.walk.Walk.TheVariants as walk
 use Rattle.m161_judge.specs.declared.reach.Reach.{Reach}
 use Rattle.m161_judge.specs.Run.{is_cut}
 use Rattle.m161_judge.specs.Memory.{IsFirstReach}
-use Rattle.m161_judge.specs.Verdict.{Criteria, Holds, IsJudged, IsRefused, IsStuckAfter, IsStuckBadly, LeadsTo, has_keys, rank}
+use Rattle.m161_judge.specs.Verdict.{Criteria, Holds, IsJudged, IsRefused, LeadsTo, has_keys, rank}
 
 -- How the code judges a run: it looks at each of its states.
-
--- the least number below n after which the run is stuck badly, if there is one
-abbrev pub IsFirstBad : Criteria → State → List Event → ℕ → Option ℕ → Type 0
-IsFirstBad goal s events n None = (k : ℕ) → k < n → IsStuckBadly goal s events k → ⊥
-IsFirstBad goal s events n (Some first) =
-    (first < n) × IsStuckBadly goal s events first
-    × ((k : ℕ) → k < first → IsStuckBadly goal s events k → ⊥)
-
--- whether the run is stuck after fewer than n events
-abbrev pub WasStuck : Criteria → State → List Event → ℕ → Bool → Type 0
-WasStuck goal s events n false =
-    (k : ℕ) (t : State) → k < n → IsStuckAfter goal s events k t → ⊥
-WasStuck goal s events n true = (k : ℕ) × (t : State) × IsStuckAfter goal s events k t
-
--- what was seen after each number of events below n
-abbrev pub HasSeen : Criteria → State → List Event → ℕ → Seen → Type 0
-HasSeen goal s events n seen =
-    IsFirstBad goal s events n seen.stuck × WasStuck goal s events n seen.was_stuck
 
 -- the first verdict that one Step gives: a stale use, or the reach of an address
 abbrev pub IsJudgedOfSteps : Criteria → State → List Event → Option Judged → Type 0
@@ -154,12 +135,27 @@ pub record IsDrivenRun (rules : Rules) (n : ℕ) (output : Option (List ℕ)) (s
       → IsJudgedBeside goal s run.events.items run.judged
   pub cut : run.is_cut ≡ is_cut driven.stop (has_keys rules.keys run.events.items) state
 
--- the same of a run that was begun: its events begin with these; or memory was refused
+-- a run that was begun goes on to its end, judged but for its Steps
+pub record IsDrivenRest
+    (rules : Rules) (n : ℕ) (goal : Criteria) (s : State) (fs : List Event) (u : State) (run : JudgedRun)
+    : Type 0 where
+  pub driven : Driven
+  pub entries : List Entry
+  pub state : State
+  pub drives : Drives rules n u driven entries state
+  pub accepted : (refusal : Refusal) → driven.stop ≢ drive.Refused refusal
+  pub events_are : run.events.items ≡ fs ++ events_of entries
+  pub made : IsRefused s run.events.items → ⊥
+  pub beside : IsJudgedBeside goal s run.events.items run.judged
+  pub cut : run.is_cut ≡ is_cut driven.stop (has_keys goal.keys run.events.items) state
+
+-- its events begin with these; or memory was refused
 abbrev pub DrivesRest :
-    Rules → ℕ → Option (List ℕ) → State → List Event → Result JudgedRun AuditError → Type 0
-DrivesRest rules n output s begun (Ok run) =
-    IsDrivenRun rules n output s run × ((rest : List Event) × (run.events.items ≡ begun ++ rest))
-DrivesRest rules n output s begun (Err error) = error ≡ Boot NoMemory
+    Rules → ℕ → Criteria → State → List Event → State → List Event → Result JudgedRun AuditError
+    → Type 0
+DrivesRest rules n goal s fs u begun (Ok run) =
+    IsDrivenRest rules n goal s fs u run × ((rest : List Event) × (run.events.items ≡ begun ++ rest))
+DrivesRest rules n goal s fs u begun (Err error) = error ≡ Boot NoMemory
 
 -- or memory was refused
 abbrev pub DrivesRun :

@@ -5,8 +5,8 @@ use super::same;
 use m161::{Console, Tlb};
 use m161_drive::{Cursor, Order, turn};
 use m161_judge::{
-    Booted, Conf, Event, Goal, Judged, JudgedRun, LinkUnit, Policy, StepMemory, Verdict, Watch,
-    judge_rest, judge_run,
+    Booted, Conf, Event, First, Goal, Judged, JudgedRun, LinkUnit, Policy, StepMemory, Verdict,
+    Watch, judge_rest, judge_run,
 };
 use m161_machine::{Core, PackedEntry};
 use m161_test_support::kernel::kernel_with;
@@ -257,7 +257,11 @@ fn rest_of(alloc: Global, order: Order, never: &[u32], first: usize) -> Result<J
         steps,
     } = begin(alloc, &booted, &policy, &goal, first)?;
     let steps = steps.copy(alloc)?;
-    Ok(judge_rest(&mut core, &policy, cursor, 10_000, events, steps, &goal)?)
+    let none = First::none();
+    let rest = judge_rest(
+        &mut core, &policy, cursor, 10_000, none, events, steps, &goal,
+    )?;
+    Ok(rest)
 }
 
 // Checks that a run has the verdict of the whole, also where it goes on behind what goes wrong.

@@ -8,44 +8,68 @@ use Rattle.m161_order.specs.declared.order.Order.{Order}
 use Rattle.m161_order.specs.declared.order.Order.TheVariants.{Delayed}
 use Rattle.m161_order.specs.Delays.{delays_of}
 use Rattle.s161_base.specs.declared.fault.Fault.{Fault}
+use Rattle.s161_base.specs.declared.fault.Fault.TheVariants.{Memory}
 use Rattle.s161_command.specs.declared.task.SearchTask.{SearchTask}
 use Rattle.s161_search.specs.declared.orders.WrongRun.{WrongRun}
-use Rattle.s161_search.specs.Delays.{HasRightRun, IsRunOf}
+use Rattle.s161_search.specs.declared.start.Start.{Start}
 use Rattle.s161_search.specs.Given.{Given}
-use Rattle.s161_search.specs.Seeds.{IsRightAt, IsRunAt, IsRunFault}
+use Rattle.s161_search.specs.Runs.{IsRunOf}
+use Rattle.s161_search.specs.Seeds.{IsRightAt, IsRunAt}
 use Rattle.m161_states.specs.Question.{Question}
 use Rattle.s161_search.specs.Told.{IsRunTold}
-use Rattle.s161_search.specs.helpers.Begun.{BeginsAt}
+use Rattle.s161_search.specs.helpers.Begun.{BeginsAt, IsStarted}
 use Rattle.s161_search.specs.helpers.Telling.{Begins, TellsRun}
 
--- What is known of runs from a state that may be the one at boot.
+-- What is known of runs from what may be the start of a search.
 
-abbrev pub IsRunFrom : State → SearchTask → Given → Order → JudgedRun → Type 0
-IsRunFrom s task given order run = BeginsAt task given s → IsRunOf task given order run
+-- a start of the search of what was read
+abbrev pub IsStartOf : Given → Start → Type 0
+IsStartOf given start = (s : State) × BeginsAt given s × IsStarted given s start
 
-abbrev pub IsFaultFrom : State → SearchTask → Given → Fault → Type 0
-IsFaultFrom s task given fault = BeginsAt task given s → IsRunFault task given fault
+-- of which this is asked of the states behind its runs
+abbrev pub BeginsBehind : Given → Start → Question → Type 0
+BeginsBehind given start q = (s : State) × Begins given s q × IsStarted given s start
 
-abbrev pub IsRightFrom : State → Question → SearchTask → Given → ℕ → List ℕ → Bool → Type 0
-IsRightFrom s q task given steps numbers is_cut =
-    Begins task given s q → HasRightRun task given steps numbers is_cut
+-- a run, whose order begins at the start
+abbrev pub IsRunFrom : Start → SearchTask → Given → Order → JudgedRun → Type 0
+IsRunFrom start task given order run =
+    IsStartOf given start
+    → (is : IsRunOf task given order run) × (is.goes.between ≡ start.core.value.state)
 
-abbrev pub IsWrongFrom : State → Question → SearchTask → Given → ℕ → List ℕ → WrongRun → Type 0
-IsWrongFrom s q task given steps numbers wrong =
-    Begins task given s q → (delays : Delays) × (delays_of delays ≡ numbers)
+-- the run of a list has no verdict, and its order begins at this state
+abbrev pub HasRightRunAt : State → SearchTask → Given → ℕ → List ℕ → Bool → Type 0
+HasRightRunAt u task given steps numbers is_cut =
+    (delays : Delays) × (run : JudgedRun) × (delays_of delays ≡ numbers)
+    × (is : IsRunOf task given (Delayed steps delays) run)
+    × IsRunTold run.is_cut task given run.events.items None × (run.is_cut ≡ is_cut)
+    × (is.goes.between ≡ u)
+
+abbrev pub IsRightFrom : Start → Question → SearchTask → Given → ℕ → List ℕ → Bool → Type 0
+IsRightFrom start q task given steps numbers is_cut =
+    BeginsBehind given start q
+    → HasRightRunAt start.core.value.state task given steps numbers is_cut
+
+abbrev pub IsWrongFrom : Start → Question → SearchTask → Given → ℕ → List ℕ → WrongRun → Type 0
+IsWrongFrom start q task given steps numbers wrong =
+    BeginsBehind given start q → (delays : Delays) × (delays_of delays ≡ numbers)
     × IsRunOf task given (Delayed steps delays) wrong.run
     × IsRunTold wrong.run.is_cut task given wrong.run.events.items (Some wrong.told)
 
 -- the same of the seeds
 
-abbrev pub IsSeedRightFrom : State → Question → SearchTask → Given → ℕ → Bool → Type 0
-IsSeedRightFrom s q task given k is_cut = Begins task given s q → IsRightAt task given k is_cut
+abbrev pub IsSeedRightFrom : Start → Question → SearchTask → Given → ℕ → Bool → Type 0
+IsSeedRightFrom start q task given k is_cut =
+    BeginsBehind given start q → IsRightAt task given k is_cut
 
-abbrev pub IsSeedWrongFrom : State → Question → SearchTask → Given → ℕ → WrongRun → Type 0
-IsSeedWrongFrom s q task given k wrong =
-    Begins task given s q
+abbrev pub IsSeedWrongFrom : Start → Question → SearchTask → Given → ℕ → WrongRun → Type 0
+IsSeedWrongFrom start q task given k wrong =
+    BeginsBehind given start q
     → IsRunAt task given k wrong.run
     × IsRunTold wrong.run.is_cut task given wrong.run.events.items (Some wrong.told)
+
+-- behind a start only memory can be refused
+abbrev pub IsNoMemory : Fault → Type 0
+IsNoMemory fault = fault ≡ Memory
 
 -- what became of a run, where so many states behind it may be looked at, of which this is asked
 abbrev pub IsTested : ℕ → Question → JudgedRun → Tested WrongRun → Type 0

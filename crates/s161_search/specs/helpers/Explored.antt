@@ -7,8 +7,8 @@ use Rattle.s161_search.specs.helpers.Never.{with_addresses}
 
 -- What an exploration comes to.
 
--- what is printed of what was read, with the addresses of these words
-abbrev pub PrintsExploredFor : SearchTask → ℕ → List (List ℕ) → Given → List ℕ → ℕ → Type 0
-PrintsExploredFor search limit words given text status =
+-- what is printed and said of what was read, with the addresses of these words
+abbrev pub PrintsExploredFor : SearchTask → ℕ → List (List ℕ) → Given → List ℕ → List ℕ → ℕ → Type 0
+PrintsExploredFor search limit words given text told status =
     (addresses : List ℕ) × AreAddresses (symbols_in search given) words addresses
-    × PrintsExplored search limit (with_addresses given addresses) text status
+    × PrintsExplored limit (with_addresses given addresses) text told status

@@ -1,13 +1,13 @@
 use Rattle.std.specs.Prelude.{◌≡◌, ℕ, List}
 use Rattle.m161_debug.specs.Commands.{IsPlace}
 use Rattle.s161_base.specs.declared.fault.Fault.{Fault}
-use Rattle.s161_base.specs.declared.fault.Fault.TheVariants.{Conf, Image, Memory, Never, Watch}
+use Rattle.s161_base.specs.declared.fault.Fault.TheVariants.{After, Conf, Image, Memory, Never, Watch}
 use Rattle.s161_command.specs.declared.task.SearchTask.{SearchTask}
 use Rattle.s161_search.specs.declared.inputs.Inputs.{Inputs}
 use Rattle.s161_search.specs.Given.{Given}
 use Rattle.s161_search.specs.Never.{AreAddresses, IsUnknown, LacksAddress, symbols_in}
 use Rattle.s161_search.specs.Searches.{Prints}
-use Rattle.s161_search.specs.Seeds.{IsRunFault}
+use Rattle.s161_search.specs.Runs.{IsRunFault}
 use Rattle.s161_search.specs.helpers.Inputs.{given_of}
 
 -- What comes of the words that stand for addresses.
@@ -42,8 +42,11 @@ PrintsFor task words given text status =
 -- a word stands for no address, or a run can't be made
 abbrev pub IsNeverFault : SearchTask → List (List ℕ) → Given → Fault → Type 0
 IsNeverFault task words given (Never word) = LacksAddress task words given word.now
-IsNeverFault task words given Conf = IsRunFault task given Conf
-IsNeverFault task words given (Image e) = IsRunFault task given (Image e)
-IsNeverFault task words given (Watch k) = IsRunFault task given (Watch k)
+IsNeverFault task words given Conf = IsRunFault given Conf
+IsNeverFault task words given (Image e) = IsRunFault given (Image e)
+IsNeverFault task words given (Watch k) = IsRunFault given (Watch k)
+IsNeverFault task words given (After k why) =
+    (addresses : List ℕ) × AreAddresses (symbols_in task given) words addresses
+    × IsRunFault given (After k why)
 IsNeverFault task words given Memory = Unit {0}
 IsNeverFault task words given _ = ⊥

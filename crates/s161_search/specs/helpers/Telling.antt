@@ -47,12 +47,13 @@ TellsRun false few q events judged told = told ≡ option_map told_of judged
 
 -- all runs of a search begin at this state, and this is asked of the states behind them, whatever is
 -- known of time
-pub record Begins (task : SearchTask) (given : Given) (s : State) (q : Question) : Type 0 where
-  pub boots : BeginsAt task given s
+pub record Begins (given : Given) (s : State) (q : Question) : Type 0 where
+  pub boots : BeginsAt given s
   pub can : CanBeAsked s (ends_of (criteria_of given))
   pub asks : with_known no_time q ≡ asked_of s (ends_of (criteria_of given))
 
--- whether a list of events hangs, in each search with this number of states that begins so
-abbrev pub HasHangFrom : State → Question → ℕ → Given → List Event → Option (Judgement ℕ) → Type 0
-HasHangFrom s q few given events verdict =
-    (task : SearchTask) → task.hung ≡ few → Begins task given s q → HasHang task given events verdict
+-- whether a list of events hangs behind first ones, in each search with this number of states that begins so
+abbrev pub HasHangFrom :
+    State → Question → ℕ → Given → List Event → List Event → Option (Judgement ℕ) → Type 0
+HasHangFrom s q few given first events verdict =
+    (task : SearchTask) → task.hung ≡ few → Begins given s q → HasHang task given first events verdict

@@ -48,4 +48,4 @@ pub record IsListed
   pub final : Told
   pub is_told : IsRunTold wrong.run.is_cut task given events (Some final)
   pub same_kind : kind_number final.verdict ≡ kind_number wrong.told.verdict
-  pub text_is : text ≡ found_text task.size (delays_text numbers) final.verdict events
+  pub text_is : text ≡ found_text given.conf (delays_text numbers) final.verdict events

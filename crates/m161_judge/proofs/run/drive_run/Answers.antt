@@ -3,7 +3,7 @@ use Rattle.std.specs.Prelude.{count_by, is_some, nat_lt}
 use Rattle.m161_machine.specs.History.{events_of}
 use Rattle.m161_judge.specs.Run.{is_cut}
 use Rattle.m161_judge.specs.Verdict.{has_keys, is_key}
-use Rattle.m161_judge.specs.helpers.Walk.{HasSeen}
+use Rattle.m161_judge.specs.Seen.{HasSeen}
 use Rattle.m161_judge.proofs.Driven.{all_keys, key_is_left, run_ends, run_seen}
 use Rattle.m161_judge.proofs.Judging.{none_refused}
 use Rattle.m161_judge.proofs.run.drive_run.Goals as goal

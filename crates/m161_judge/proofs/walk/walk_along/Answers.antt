@@ -1,6 +1,6 @@
 use Rattle.std.proofs.Common.{◌≡◌, ◌∙◌, refl, sym, ap, subst, arith, length}
 use Rattle.m161_judge.specs.Verdict.{Criteria}
-use Rattle.m161_judge.specs.helpers.Walk.{HasSeen}
+use Rattle.m161_judge.specs.Seen.{HasSeen}
 use Rattle.m161_judge.proofs.Judging.{none_refused}
 use Rattle.m161_judge.proofs.Seeing.{nothing_seen}
 use Rattle.m161_judge.proofs.Walking.{Walking, ends_all, ends_off, keys_are, walks_more, walks_refused}

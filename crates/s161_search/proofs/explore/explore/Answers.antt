@@ -1,4 +1,4 @@
-use Rattle.std.proofs.Common.{map, subst}
+use Rattle.std.proofs.Common.{map, string_bytes, subst}
 use Rattle.std.specs.Prelude.{IfErr, IfOk}
 use Rattle.s161_base.specs.Asked.{AsksFor}
 use Rattle.s161_base.specs.Samples.{image_file}
@@ -14,9 +14,10 @@ pub returns-clause-ok : goal.returns-clause-ok
 returns-clause-ok g c =
     let files = g.F.FileSource.known c.args.files.now in
     let words = map (λ word. word.now) c.args.never.now in
-    subst (λ n. IfOk c.explore_by.result (λ done. IsExploredBy (as_search c.args.task) n words files (image_file files c.args.task.image.now) done.text.items done.status))
+    let told = string_bytes c.explore_by.new.said in
+    subst (λ n. IfOk c.explore_by.result (λ done. IsExploredBy (as_search c.args.task) n words files (image_file files c.args.task.image.now) done.text.items told done.status))
     c.limit_of.ensures.value
-    (subst (λ (t : SearchTask). IfOk c.explore_by.result (λ done. IsExploredBy t c.limit_of.result words files (image_file files t.image.now) done.text.items done.status))
+    (subst (λ (t : SearchTask). IfOk c.explore_by.result (λ done. IsExploredBy t c.limit_of.result words files (image_file files t.image.now) done.text.items told done.status))
     c.as_search.ensures c.explore_by.ensures.ok)
 
 pub returns-clause-fault : goal.returns-clause-fault

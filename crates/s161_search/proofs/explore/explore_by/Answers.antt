@@ -1,4 +1,4 @@
-use Rattle.std.proofs.Common.{map}
+use Rattle.std.proofs.Common.{map, string_bytes}
 use Rattle.std.proofs.lemmas.Result.{err_from_is_err_and}
 use Rattle.s161_base.proofs.Asking.{result_asks}
 use Rattle.s161_base.specs.Samples.{image_file}
@@ -18,7 +18,7 @@ pub returns-clause-ok : goal.returns-clause-ok
 returns-clause-ok g c =
     let files = g.F.FileSource.known c.args.files.now in
     explored_so c.args.search c.args.limit (map (λ word. word.now) c.args.never.now) files (image_file files c.args.search.image.now)
-    (given_of c.in_ok-inputs.inputs) c.explore_in.result c.in_ok-inputs.ensures.ok c.explore_in.ensures.ok
+    (given_of c.in_ok-inputs.inputs) (string_bytes c.explore_in.new.said) c.explore_in.result c.in_ok-inputs.ensures.ok c.explore_in.ensures.ok
 
 pub returns-clause-fault : goal.returns-clause-fault
 returns-clause-fault g c =

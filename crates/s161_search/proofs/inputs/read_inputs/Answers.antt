@@ -1,92 +1,41 @@
-use Rattle.std.proofs.Common.{◌∙◌, [], ◌∷◌, rules}
-use Rattle.std.proofs.lemmas.Result.{err_from_is_err_and}
+use Rattle.std.proofs.Common.{◌≡◌, ◌∙◌, ◌++◌, [], ◌∷◌, subst, sym, inl, inr, List, ℕ, IfSome}
 use Rattle.std.specs.Prelude.{flat_map, option_map, string_bytes}
-use Rattle.s161_base.proofs.Asking.{after_all, image_unread, later}
+use Rattle.s161_base.proofs.Asking.{after_all, asks_both, asks_err, image_unread, later, says_err}
 use Rattle.s161_base.specs.Asked.{image_files, option_files}
+use Rattle.s161_base.specs.Listed.{IsTextOf, ListsFirst}
 use Rattle.s161_base.specs.Samples.{image_file}
-use Rattle.s161_run.proofs.Keeping.{keys_unread}
+use Rattle.s161_run.proofs.Keeping.{first_is_none, keys_are, keys_failed, keys_unread, text_failed, text_is, text_unread}
 use Rattle.s161_search.specs.Given.{search_files}
 use Rattle.s161_search.specs.Searches.{IsSearchFault}
-use Rattle.s161_search.proofs.Asking.{asks_all, line_is_none, watches_unread}
-use Rattle.s161_search.proofs.Reading.{text_failed}
+use Rattle.s161_search.proofs.Asking.{asks_all, line_is_none}
+use Rattle.s161_search.proofs.Reading.{first_failed, has_first, text_failed as lines_failed, watches_are}
 use Rattle.s161_search.proofs.inputs.read_inputs.Goals as goal
 
-pub returns-in_err-watches-clause-fault : goal.returns-in_err-watches-clause-fault
-returns-in_err-watches-clause-fault g c = λ never.
-    let files = g.F.FileSource.known c.args.files.now in
-    let image = image_file files c.args.task.image.now in
-    let failed = text_failed (IsSearchFault c.args.task never files image) c.args.task.watches (g.F.FileSource.known c.read_keys.new.files) files
-    (option_map string_bytes c.in_ok-text.text) c.in_err-watches.field-0.0
-    (λ n. c.in_ok-keys.ensures.still n ∙ c.in_ok-file.ensures.still n) c.in_ok-text.ensures.whole c.in_err-watches.ensures.fault (λ n bad. bad) tt in
-    search (rules, failed)
-
-pub returns-in_err-file-clause-asks : goal.returns-in_err-file-clause-asks
-returns-in_err-file-clause-asks g c =
-    let asked = g.F.FileSource.asked in
+pub returns-clause-ok : goal.returns-clause-ok
+returns-clause-ok g c =
+    let known = g.F.FileSource.known in
+    let files = known c.args.files.now in
     let task = c.args.task in
-    let made = err_from_is_err_and c.from_residual.result c.from_residual.ensures.1 in
-    rw (made.1, made.2)
-    (image_unread task.image (flat_map option_files (task.drive.keys ∷ task.watches ∷ task.output ∷ [])) (asked c.args.files.now) (asked c.read_image.new.files)
-    c.in_err-file.field-0.0 c.in_err-file.ensures.asks c.in_err-file.ensures.err)
+    let first = c.in_ok-first.first in
+    let after = option_map string_bytes c.in_ok-after.after in
+    let before = λ (n : List ℕ). c.in_ok-after.ensures.still n ∙ c.in_ok-file.ensures.still n in
+    let keys = λ (n : List ℕ). c.in_ok-keys.ensures.still n ∙ before n in
+    record {
+      are_inputs = record {
+        is_file = c.in_ok-file.ensures.whole;
+        text = after;
+        is_text = text_is task.drive.after (known c.read_image.new.files) files after c.in_ok-file.ensures.still c.in_ok-after.ensures.whole;
+        are_keys = keys_are task.drive.keys (known c.read_text_if-after.new.files) files c.in_ok-keys.keys.items before c.in_ok-keys.ensures.whole;
+        lists =
+            subst (λ bytes. ListsFirst task.size bytes after first.events first.conf) c.deref.ensures.value
+            (subst (λ t. ListsFirst task.size c.deref.result.now t first.events first.conf) c.as_deref.ensures.value c.in_ok-first.ensures.ok);
+      };
+      are_all = c.in_ok-all_keys.ensures ∙ ap (λ ks. keys_in first.events ++ ks) c.deref-2.ensures.value;
+      are_watches = watches_are task.watches (known c.read_keys.new.files) files (option_map string_bytes c.in_ok-text.text) c.in_ok-watches.watches.items keys
+          c.in_ok-text.ensures.whole c.in_ok-watches.ensures.found;
+      is_output = output_is task.output (known c.read_text_if-text.new.files) files (option_map (λ bytes. bytes.items) c.in_ok-output.output)
+          (λ n. c.in_ok-text.ensures.still n ∙ keys n) c.in_ok-output.ensures.whole;
+    }
 
--- the files before it were read
-pub returns-in_err-keys-clause-asks : goal.returns-in_err-keys-clause-asks
-returns-in_err-keys-clause-asks g c =
-    let asked = g.F.FileSource.asked in
-    let task = c.args.task in
-    let rest = flat_map option_files (task.watches ∷ task.output ∷ []) in
-    let b = asked c.read_image.new.files in
-    let e = asked c.read_keys.new.files in
-    let fault = c.in_err-keys.field-0.0 in
-    let made = err_from_is_err_and c.from_residual-in_err-keys.result c.from_residual-in_err-keys.ensures.1 in
-    rw (made.1, made.2)
-    (later (image_files task.image.now) (flat_map option_files (task.drive.keys ∷ task.watches ∷ task.output ∷ [])) (asked c.args.files.now) b e fault c.in_ok-file.ensures.asks
-    (keys_unread task.drive.keys rest b e fault c.in_err-keys.ensures.asks c.in_err-keys.ensures.err))
-
-pub returns-in_err-text-clause-asks : goal.returns-in_err-text-clause-asks
-returns-in_err-text-clause-asks g c =
-    let asked = g.F.FileSource.asked in
-    let task = c.args.task in
-    let rest = flat_map option_files (task.output ∷ []) in
-    let b = asked c.read_image.new.files in
-    let d = asked c.read_keys.new.files in
-    let e = asked c.read_watches.new.files in
-    let fault = c.in_err-text.field-0.0 in
-    let made = err_from_is_err_and c.from_residual-in_err-text.result c.from_residual-in_err-text.ensures.1 in
-    rw (made.1, made.2)
-    (later (image_files task.image.now) (flat_map option_files (task.drive.keys ∷ task.watches ∷ task.output ∷ [])) (asked c.args.files.now) b e fault c.in_ok-file.ensures.asks
-    (later (option_files task.drive.keys) (flat_map option_files (task.watches ∷ task.output ∷ [])) b d e fault c.in_ok-keys.ensures.asks
-    (watches_unread task.watches (g.F.FileSource.known c.read_keys.new.files) rest d e fault c.in_err-text.ensures.asks c.in_err-text.ensures.err)))
-
-pub returns-in_err-output-clause-asks : goal.returns-in_err-output-clause-asks
-returns-in_err-output-clause-asks g c =
-    let asked = g.F.FileSource.asked in
-    let task = c.args.task in
-    let b = asked c.read_image.new.files in
-    let d = asked c.read_keys.new.files in
-    let w = asked c.read_watches.new.files in
-    let e = asked c.read_output.new.files in
-    let fault = c.in_err-output.field-0.0 in
-    let made = err_from_is_err_and c.from_residual-in_err-output.result c.from_residual-in_err-output.ensures.1 in
-    rw (made.1, made.2)
-    (later (image_files task.image.now) (flat_map option_files (task.drive.keys ∷ task.watches ∷ task.output ∷ [])) (asked c.args.files.now) b e fault c.in_ok-file.ensures.asks
-    (later (option_files task.drive.keys) (flat_map option_files (task.watches ∷ task.output ∷ [])) b d e fault c.in_ok-keys.ensures.asks
-    (later (option_files task.watches) (flat_map option_files (task.output ∷ [])) d w e fault c.in_ok-text.ensures.asks
-    (keys_unread task.output [] w e fault c.in_err-output.ensures.asks c.in_err-output.ensures.err))))
-
--- all files were read
-pub returns-in_err-watches-clause-asks : goal.returns-in_err-watches-clause-asks
-returns-in_err-watches-clause-asks g c =
-    let asked = g.F.FileSource.asked in
-    let task = c.args.task in
-    let a = asked c.args.files.now in
-    let e = asked c.read_output.new.files in
-    let all = asks_all task a (asked c.read_image.new.files) (asked c.read_keys.new.files) (asked c.read_watches.new.files) e c.in_ok-file.ensures.asks c.in_ok-keys.ensures.asks c.in_ok-text.ensures.asks c.in_ok-output.ensures.asks in
-    let made = err_from_is_err_and c.from_residual-in_err-watches.result c.from_residual-in_err-watches.ensures.1 in
-    rw (made.1, made.2)
-    (after_all (search_files task) a e c.in_err-watches.field-0.0 all (line_is_none (option_map string_bytes c.in_ok-text.text) c.in_err-watches.field-0.0 c.in_err-watches.ensures.fault))
-
-pub returns-clause-asks : goal.returns-clause-asks
-returns-clause-asks g c =
-    let asked = g.F.FileSource.asked in
-    asks_all c.args.task (asked c.args.files.now) (asked c.read_image.new.files) (asked c.read_keys.new.files) (asked c.read_watches.new.files) (asked c.read_output.new.files) c.in_ok-file.ensures.asks c.in_ok-keys.ensures.asks c.in_ok-text.ensures.asks c.in_ok-output.ensures.asks
+pub returns-in_err-file-clause-fault : goal.returns-in_err-file-clause-fault
+returns-in_err-file-clause-fault g c = ?

@@ -1,28 +1,33 @@
-use Rattle.std.proofs.Common.{Err, Ok, refl, subst, sym}
-use Rattle.m161_machine.specs.History.{boot_fault}
-use Rattle.s161_base.specs.Sizes.{conf_of}
-use Rattle.s161_run.specs.Driven.{rules_of}
+use Rattle.std.proofs.Common.{◌≡◌, ◌∙◌, ap}
+use Rattle.std.proofs.lemmas.Result.{IfOk-weaker}
+use Rattle.m161_drive.specs.Choice.{cursor_at}
+use Rattle.m161_drive.specs.Policy.{Rules}
+use Rattle.m161_machine.specs.State.{CoreValue}
+use Rattle.s161_search.specs.Given.{criteria_of}
+use Rattle.s161_search.specs.Runs.{most_of}
 use Rattle.s161_search.specs.helpers.Inputs.{given_of}
-use Rattle.s161_search.specs.Seeds.{IsRunFault}
-use Rattle.s161_search.proofs.Failing.{run_failed}
-use Rattle.s161_search.proofs.Judging.{as_given, run_made}
+use Rattle.s161_search.proofs.Pointing.{begun_first, kept_again}
+use Rattle.s161_search.proofs.Starting.{keys_behind, made_run}
 use Rattle.s161_search.proofs.orders.run_order.Goals as goal
 
-pub returns-in-Ok-clause-ok : goal.returns-in-Ok-clause-ok
-returns-in-Ok-clause-ok c = λ begins.
+pub returns-clause-ok : goal.returns-clause-ok
+returns-clause-ok c =
     let task = c.args.task in
     let given = given_of c.args.inputs.now in
-    let drive = record task.drive { order = c.args.order } in
-    run_made task given (rules_of drive given.keys) (boot_fault given.file (conf_of task.size)) c.in-Ok.run'
-    (as_given task given drive c.in_ok-policy.policy c.goal.result (Ok c.in-Ok.run') c.in_ok-policy.ensures.ok c.goal.ensures
-    (c.in-Ok.ensures given.file (conf_of task.size) begins))
-
-pub returns-in-Err-clause-fault : goal.returns-in-Err-clause-fault
-returns-in-Err-clause-fault c = λ begins.
-    let task = c.args.task in
-    let given = given_of c.args.inputs.now in
-    let drive = record task.drive { order = c.args.order } in
-    subst (IsRunFault task given) (sym c.fault_of_audit.ensures)
-    (run_failed task given (rules_of drive given.keys) task.drive.events (boot_fault given.file (conf_of task.size)) c.in-Err.error refl
-    (as_given task given drive c.in_ok-policy.policy c.goal.result (Err c.in-Err.error) c.in_ok-policy.ensures.ok c.goal.ensures
-    (c.in-Err.ensures given.file (conf_of task.size) begins)))
+    let start = c.args.start.now in
+    let rules = c.in_ok-policy.policy in
+    let begun = c.in_ok-begun.begun' in
+    let same = c.in_ok-begun.ensures in
+    let cursor : c.new-cursor.result ≡ cursor_at rules begun.core.value.state =
+    c.new-cursor.ensures ∙ ap (λ (k : CoreValue). cursor_at rules k.state) c.deref.ensures.value in
+    IfOk-weaker c.judge_begun.result _ _
+    (λ run h start_of.
+    let s = start_of.0 in
+    let started = start_of.2 in
+    made_run task given c.args.order s start rules run c.in_ok-policy.ensures.ok start_of.1 started
+    (h s start.core.value.state start.events.items started.first_is
+    (keys_behind given s start rules (ap (λ (r : Rules). r.keys) c.in_ok-policy.ensures.ok) started)
+    (begun_first rules (most_of task given) start.events.items start.core.value.state begun.core.value.state c.new-cursor.result begun.events.items same.0
+    cursor same.1)
+    (kept_again s (criteria_of given) start.events.items begun.events.items start.steps begun.steps same.1 same.2 started.kept)))
+    c.judge_begun.ensures.ok

@@ -11,7 +11,7 @@ use Rattle.s161_search.proofs.search.make_runs.Goals as goal
 
 pub can_be_asked-requires : goal.can_be_asked-requires
 can_be_asked-requires g c =
-    let boot = begins c.args.task (given_of c.args.inputs.now) c.args.booted.now c.requires.booted in
+    let boot = begins (given_of c.args.inputs.now) c.args.booted.now c.requires.booted in
     (boot.start, ap (λ (k : CoreValue). k.state) c.deref-core.ensures ∙ c.in_ok-boxed.ensures ∙ boot.state_is)
 
 pub make_orders-requires-clause-begins : goal.make_orders-requires-clause-begins

@@ -1,8 +1,7 @@
 use Rattle.std.proofs.Common.{Err, Ok, refl, subst, sym}
 use Rattle.m161_machine.specs.History.{boot_fault}
-use Rattle.s161_base.specs.Sizes.{conf_of}
+use Rattle.s161_search.specs.helpers.Begun.{IsBareFault}
 use Rattle.s161_search.specs.helpers.Inputs.{given_of}
-use Rattle.s161_search.specs.Seeds.{IsRunFault}
 use Rattle.s161_search.proofs.Failing.{unbooted}
 use Rattle.s161_search.proofs.Judging.{boots_as}
 use Rattle.s161_search.proofs.seeds.boot.Goals as goal
@@ -10,12 +9,11 @@ use Rattle.s161_search.proofs.seeds.boot.Goals as goal
 pub returns-in-Ok-clause-ok : goal.returns-in-Ok-clause-ok
 returns-in-Ok-clause-ok c =
     let given = given_of c.args.inputs.now in
-    boots_as c.deref.result.now given.file c.conf_of.result (conf_of c.args.task.size) (Ok c.in-Ok.booted) c.deref.ensures.value c.conf_of.ensures c.in-Ok.ensures
+    boots_as c.deref.result.now given.file given.conf given.conf (Ok c.in-Ok.booted) c.deref.ensures.value refl c.in-Ok.ensures
 
 pub returns-in-Err-clause-fault : goal.returns-in-Err-clause-fault
 returns-in-Err-clause-fault c =
     let given = given_of c.args.inputs.now in
-    let conf = conf_of c.args.task.size in
-    subst (IsRunFault c.args.task given) (sym c.fault_of_audit.ensures)
-    (unbooted c.args.task given (boot_fault given.file conf) c.in-Err.error refl
-    (boots_as c.deref.result.now given.file c.conf_of.result conf (Err c.in-Err.error) c.deref.ensures.value c.conf_of.ensures c.in-Err.ensures))
+    subst (IsBareFault given) (sym c.fault_of_audit.ensures)
+    (unbooted given (boot_fault given.file given.conf) c.in-Err.error refl
+    (boots_as c.deref.result.now given.file given.conf given.conf (Err c.in-Err.error) c.deref.ensures.value refl c.in-Err.ensures))

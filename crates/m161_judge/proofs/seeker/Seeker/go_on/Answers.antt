@@ -1,4 +1,4 @@
-use Rattle.std.proofs.Common.{◌∙◌, ap, length, refl, subst, sym, Some}
+use Rattle.std.proofs.Common.{length, refl, subst, sym, Some}
 use Rattle.m161_judge.specs.Memory.{IsReachOf, ReachMemory}
 use Rattle.m161_judge.proofs.Keeping.{sought_over}
 use Rattle.m161_judge.proofs.seeker.Seeker.go_on.Goals as goal

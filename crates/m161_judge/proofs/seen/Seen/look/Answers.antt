@@ -1,5 +1,5 @@
 use Rattle.std.proofs.Common.{◌∙◌, ◌+◌, subst, sym, true}
-use Rattle.m161_judge.specs.helpers.Walk.{HasSeen}
+use Rattle.m161_judge.specs.Seen.{HasSeen}
 use Rattle.m161_judge.proofs.Seeing.{seen_bad, seen_free, seen_sent}
 use Rattle.m161_judge.proofs.seen.Seen.look.Goals as goal
 

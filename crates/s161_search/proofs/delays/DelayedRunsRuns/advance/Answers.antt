@@ -1,6 +1,7 @@
 use Rattle.std.proofs.Common.{◌≡◌, ◌+◌, ◌-◌, length, refl, subst, arith}
 use Rattle.std.specs.Prelude.{IfSome, slice_get}
 use Rattle.m161_places.specs.Going.{PassesNoting}
+use Rattle.s161_search.specs.Runs.{most_of}
 use Rattle.s161_search.specs.helpers.Inputs.{given_of}
 use Rattle.s161_search.specs.declared.points.RunPoint.{RunPoint}
 use Rattle.s161_search.proofs.Pointing.{gone_on}
@@ -24,8 +25,9 @@ returns-in-Some-2-clause-ok c = λ others agree.
     old.events.items c.in-Some-2.made new.cursor new.core.value.state new.events.items =
     subst (λ o. IfSome o (λ made. PassesNoting rules (slice_get rules.keys) c.saturating_sub-left.result c.saturating_sub-more.result c.in-Some.cursor
     old.core.value.state old.events.items made new.cursor new.core.value.state new.events.items)) c.in-Some-2.is c.in_ok-made.ensures.went in
-    let left : c.saturating_sub-left.result ≡ self.task.drive.events - length old.events.items =
-    omega (arith, c.saturating_sub-left.ensures, c.len.ensures, size) in
-    gone_on self.booted.now self.task given self.turns c.args.place c.saturating_sub-left.result c.saturating_sub-more.result c.in-Some-2.made
+    let first = self.start.now.events.ok.0 in
+    let left : c.saturating_sub-left.result ≡ most_of self.task given - (length old.events.items - length self.start.now.events.items) =
+    omega (arith, c.saturating_sub-left.ensures, c.saturating_sub-chosen.ensures, c.most.ensures, c.len.ensures, c.len-2.ensures, size, first) in
+    gone_on self.start.now self.task given self.turns c.args.place c.saturating_sub-left.result c.saturating_sub-more.result c.in-Some-2.made
     c.args.delays.now rules old new c.in-Some.cursor c.in_ok-policy.ensures.ok c.in-Some.ensures went left c.saturating_sub-more.ensures refl
     c.in_ok-made.ensures.kept others agree (c.requires others agree)

@@ -7,6 +7,7 @@ use Rattle.m161_places.specs.Laws.{with_delays}
 use Rattle.m161_places.specs.Places.{offers}
 use Rattle.m161_places.proofs.Moving.{offers_apart}
 use Rattle.s161_run.specs.Driven.{rules_of}
+use Rattle.s161_search.specs.Runs.{most_of}
 use Rattle.s161_search.specs.helpers.Inputs.{given_of}
 use Rattle.s161_search.proofs.delays.DelayedRunsRuns.offers.Goals as goal
 
@@ -15,13 +16,13 @@ returns-clause-ok c =
     let task = c.args.self.now.task in
     let keys = (given_of c.args.self.now.inputs.now).keys in
     let rules = rules_of task.drive keys in
-    let s = c.args.self.now.booted.now in
+    let s = c.args.self.now.start.now.core.value.state in
     let turns = c.args.self.now.turns in
-    let n = task.drive.events in
+    let n = most_of task (given_of c.args.self.now.inputs.now) in
     let policy = c.in_ok-policy.ensures.ok in
     let state = c.in_ok-core.ensures in
     c.in_ok-offers.ensures
     ∙ ap (λ xs. c.args.counts.now.items ++ xs)
-    ((λ i. offers n (policy i) (slice_get (policy i).keys) (cursor_at (policy i) (state i)) (state i))
+    ((λ i. offers (c.most.ensures i) (policy i) (slice_get (policy i).keys) (cursor_at (policy i) (state i)) (state i))
     ∙ offers_apart rules (order.Delayed turns c.args.delays.now) (slice_get keys) n
     (with_delays (record { steps = turns; made = 0 }) (delays_of c.args.delays.now) (cursor_at rules s)) s)

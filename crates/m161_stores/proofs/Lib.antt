@@ -1,0 +1,4 @@
+mod Sighting
+mod Counting
+mod Telling
+mod Watching

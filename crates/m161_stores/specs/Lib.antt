@@ -1,0 +1,11 @@
+pub use Rattle.m161_machine.specs.State
+pub use Rattle.m161_explore.specs.Answers
+pub use Rattle.m161_explore.specs.Lists
+pub use Rattle.m161_states.specs.Question
+pub use Rattle.m161_states.specs.System
+pub use Rattle.m161_reach.specs.Reach
+pub mod Stores
+pub mod Runs
+pub mod Watches
+pub mod Met
+pub mod helpers
