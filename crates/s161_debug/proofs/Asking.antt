@@ -31,10 +31,10 @@ machine_asks size file named r fails names x y asks =
 pub behind_is_none : (fault : Fault) (part : List ℕ) → IsBehind fault part → IsNoFile fault
 behind_is_none fault part h = none_by (λ f. IsBehind f part) (λ name why bad. bad) fault h
 
-pub session_asks : {A : Type 0} (s : SessionState) (events : List Event) (x : Streams) (r : Result A Fault) → IfErr r (Breaks s events x) →
+pub session_asks : {A : Type 0} (s : SessionState) (events : List Event) (x : Streams) (errors told : Option (List ℕ)) (r : Result A Fault) → IfErr r (Breaks s events x errors told) →
     (names : List (List ℕ)) (a b : Option (List (List ℕ))) → Asks names a b → AsksFor names r a b
-session_asks s events x r fails names a b asks =
-    result_asks names a b r asks (IfErr-weaker r (Breaks s events x) IsNoFile (λ fault h. behind_is_none fault h.part h.is_behind) fails)
+session_asks s events x errors told r fails names a b asks =
+    result_asks names a b r asks (IfErr-weaker r (Breaks s events x errors told) IsNoFile (λ fault h. behind_is_none fault h.part h.is_behind) fails)
 
 -- of a session of GDB
 pub told_is_none : (why : ServerFault AllocError) → IsNoFile (told_as why)

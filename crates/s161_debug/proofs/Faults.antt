@@ -5,7 +5,7 @@ use Rattle.m161_machine.specs.declared.conf.Conf.{Conf as MachineConf}
 use Rattle.m161_machine.specs.History.{Boots, boot_fault}
 use Rattle.s161_command.specs.declared.task.AskedSize.{AskedSize}
 use Rattle.s161_base.specs.declared.fault.Fault.{Fault}
-use Rattle.s161_base.specs.declared.fault.Fault.TheVariants.{Conf, File, Image, Input, Log, LogImage, LogMachine, Memory, Never, Output, Schedule, Source, Threads, Touches, Watch, Watches, Word}
+use Rattle.s161_base.specs.declared.fault.Fault.TheVariants.{After, Conf, File, Image, Input, Log, LogImage, LogMachine, Memory, Never, Output, Schedule, Source, Threads, Touches, Watch, Watches, Word}
 use Rattle.s161_base.specs.declared.machines.NamedMachine.{NamedMachine}
 use Rattle.s161_base.specs.Machines.{asked_conf, machine_fault}
 use Rattle.s161_base.specs.Faults.{fault_of_boot}
@@ -34,6 +34,7 @@ not_booted asked file named (Watches n) none h = absurd h
 not_booted asked file named (Watch k) none h = absurd h
 not_booted asked file named (Never word) none h = absurd h
 not_booted asked file named (Touches word) none h = absurd h
+not_booted asked file named (After k why) none h = absurd h
 not_booted asked file named (Threads cause) none h = absurd h
 not_booted asked file named (Input why) none h = absurd h
 not_booted asked file named Word none h = absurd h

@@ -69,15 +69,15 @@ pub record Opens
   pub opened : IsOpened task.source task.size files file booted events
   pub style_is : style ≡ style_of task.registers task.symbols task.image.now file
 
--- a finished session
+-- a finished session; standard error had the first bytes and has the second
 pub record IsDebug
     (task : DebugTask) (files : List ℕ → Option (List ℕ)) (image : Option (List ℕ)) (x : Streams)
-    : Type 0 where
+    (errors told : Option (List ℕ)) : Type 0 where
   pub booted : History
   pub events : List Event
   pub style : Style
   pub opens : Opens task files image booted events style
-  pub ends : Ends (session_of booted style) events x
+  pub ends : Ends (session_of booted style) events x errors told
 
 -- a file, in the machine that is asked for, isn't the one that a log names; or no log names another
 -- one, and the file isn't booted in that machine; or memory was refused
@@ -120,13 +120,17 @@ IsEarlyFault task = IsUnopened task.image task.source task.size
 
 -- a fault in the session
 abbrev pub FailsInSession :
-    DebugTask → (List ℕ → Option (List ℕ)) → Option (List ℕ) → Streams → Fault → Type 0
-FailsInSession task files image x fault =
+    DebugTask → (List ℕ → Option (List ℕ)) → Option (List ℕ) → Streams → Option (List ℕ) →
+    Option (List ℕ) → Fault → Type 0
+FailsInSession task files image x errors told fault =
     (booted : History) × (events : List Event) × (style : Style)
-    × Opens task files image booted events style × Breaks (session_of booted style) events x fault
+    × Opens task files image booted events style
+    × Breaks (session_of booted style) events x errors told fault
 
 -- a fault that ends the task: before the session, and the streams are untouched; or in it
 abbrev pub IsDebugFault :
-    DebugTask → (List ℕ → Option (List ℕ)) → Option (List ℕ) → Streams → Fault → Type 0
-IsDebugFault task files image x fault =
-    (IsEarlyFault task files image fault × AreUntouched x) ⊎ FailsInSession task files image x fault
+    DebugTask → (List ℕ → Option (List ℕ)) → Option (List ℕ) → Streams → Option (List ℕ) →
+    Option (List ℕ) → Fault → Type 0
+IsDebugFault task files image x errors told fault =
+    (IsEarlyFault task files image fault × AreUntouched x × (told ≡ errors))
+    ⊎ FailsInSession task files image x errors told fault
