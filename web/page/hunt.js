@@ -26,9 +26,9 @@ async function hunt(from = 0) {
             if (!run.file || run.base.source !== s.source) run.symbols = readElf(file).symbols;
             const plan = { ...planOf({ ...s, order: orderOf(s) }) };
             const got = await machine.call('hunt', { file, size: sizeOf(s), plan, keys: keysOf(s), limit: s.limit, rules: rules(), from, most: from + SEEDS },
-                ({ tried, states }) => sayHunt(states ? `more than ${count(states)} states` : `${count(from + tried)} seeds tried`));
-            hunted = from + got.tried;
-            if (got.first) await showFirst(s, got); else if (got.bad) await showFound(s, got); else if (got.right) sayRight(got); else sayNone(got);
+                ({ tried, states, runs }) => sayHunt(states ? `more than ${count(states)} states` : runs ? `${count(runs)} runs with few delays` : `${count(from + tried)} seeds tried`));
+            hunted = from + (got.tried || 0);
+            if (got.first) await showFirst(s, got); else if (got.delays) await showDelayed(s, got); else if (got.bad) await showFound(s, got); else if (got.right) sayRight(got); else sayNone(got);
         }
     } catch (error) { sayHunt(''); sayFault(error.message); }
     hunting = false; $('hunt').textContent = 'Find a bad interleaving'; document.body.dataset.hunt = '';
@@ -37,13 +37,21 @@ function sayRight({ right }) { sayHunt(`<b>Right in every order: ${count(right)}
 // Shows the first list of events that goes wrong: no shorter one does.
 async function showFirst(s, { bad, states, events, blocks, then }) {
     if (!await assembleAndRun(undefined, { blocks, plan: { kind: 0, turns: then.turns, transfer: s.transfer, gap: null } })) return;
-    const words = { hung: 'no order comes to an end any more', stuck: 'stuck', conflict: 'two rows of a TLB would overlap', 'another output': 'the console has sent something else' }[bad];
-    sayHunt(`<b class="warn">After ${count(events)} events: ${words}.</b> No shorter run is so; ${count(states)} states ${bad === 'hung' ? 'in all' : 'come before it'}.`);
+    sayHunt(`<b class="warn">After ${count(events)} events: ${WRONG[bad]}.</b> No shorter run is so; ${count(states)} states ${bad === 'hung' ? 'in all' : 'come before it'}.`);
     document.body.dataset.found = bad;
 }
-function sayNone({ stopped, open, states }) {
+const WRONG = { hung: 'no order comes to an end any more', stuck: 'stuck', conflict: 'two rows of a TLB would overlap', 'another output': 'the console has sent something else', 'not off': 'not off' };
+// Shows the run of the first list of delays that goes wrong: turns in which a ready processor is passed over at these choices.
+async function showDelayed(s, { bad, delays, events, blocks, then }) {
+    if (!await assembleAndRun(undefined, { blocks, plan: { kind: 0, turns: then.turns, transfer: s.transfer, gap: null } })) return;
+    const passed = delays.length ? `Turns with ${delays.length > 1 ? `delays at the choices ${delays.join(' and ')}` : `one delay, at choice ${delays[0]}`}` : 'Turns';
+    sayHunt(`<b class="warn">${passed}: ${WRONG[bad]} after ${count(events)} events.</b> No run with fewer delays is so.`);
+    document.body.dataset.found = bad; document.body.dataset.delays = delays.join(' ');
+}
+function sayNone({ stopped, open, delayed, states }) {
     const more = hunted ? ` <button data-hunt="${hunted}">Try ${count(SEEDS)} more</button>` : '';
-    const closed = open ? `There are more than ${count(open.limit)} states, too many to look at all here; up to ${count(open.events)} events nothing goes wrong. ` : states ? `${count(states)} states: nothing but the word can go wrong. ` : '';
+    const few = delayed ? `Nor in ${count(delayed.runs)} runs by turns with at most two delays at the first ${count(delayed.within)} choices${delayed.cut ? `, of which ${count(delayed.cut)} were cut` : ''}. ` : '';
+    const closed = open ? `There are more than ${count(open.limit)} states, too many to look at all here; up to ${count(open.events)} events nothing goes wrong. ${few}` : states ? `${count(states)} states: nothing but the word can go wrong. ` : '';
     sayHunt(`${closed}<b>${count(hunted)} seeds tried, none went wrong</b>${stopped ? ' (stopped)' : ''}. That is no proof: another order may.${more}`);
 }
 // Shows the run of these blocks, which goes on in turns, and puts its schedule in place.

@@ -4,7 +4,7 @@
 const OK = 0, OFF = 16, STUCK = 17, ALL_RIGHT = 21, BAD = 253, NO_MEMORY = 254, NOTHING = 255;
 const TURNS = 0, RANDOM = 1, PRIORITIES = 2, NEVER = 0xffffffff;
 const CLEAN = 0, FOUND = 1, HUNG = 2, OPEN = 3;
-const VERDICTS = ['', 'stale', 'reached', 'conflict', 'stuck', 'output', 'end'];
+const VERDICTS = ['', 'stale', 'reached', 'conflict', 'stuck', 'output', 'end', 'hung'];
 const REFUSALS = { 1: 'BadProcessor', 2: 'Off', 4: 'KeyFull', 5: 'NothingSent', 6: 'NoMemory', 8: 'Worn', 16: 'off', 17: 'stuck', 18: 'NoTurn',
     19: 'NoStretch', 20: 'TooManyChanges', 253: 'Bad', 254: 'out of memory', 255: 'no machine' };
 const FAULTS = ['', 'BadToken', 'UnknownWord', 'BadOperand', 'OutOfRange', 'UnknownLabel', 'DoubleLabel', 'BranchTooFar', 'Overlap', 'NoMemory'];
@@ -16,7 +16,7 @@ const CONTROL = { index: 0, random: 1, entrylo: 2, context: 4, badvaddr: 8, coun
 // An instance of the module. After a trap of the engine its memory may be half written: no call goes through any more.
 class Talusdish {
     static async load(bytes) { return new Talusdish((await WebAssembly.instantiate(bytes, {})).instance.exports); }
-    constructor(exports) { this.exports = exports; this.trapped = null; this.seen = null; this.place = this.room(256); }
+    constructor(exports) { this.exports = exports; this.trapped = null; this.seen = null; this.place = this.room(512); }
     call(name, ...words) {
         if (this.trapped) throw this.trapped;
         try { return this.exports[name](...words); } catch (error) { this.trapped = error; throw error; }
@@ -32,7 +32,7 @@ class Talusdish {
     // What a call has told: its structs lie here. (The buffer is another one where the memory has grown.)
     told() {
         const { buffer } = this.exports.memory;
-        if (!this.seen || this.seen.buffer !== buffer) this.seen = new DataView(buffer, this.place, 256);
+        if (!this.seen || this.seen.buffer !== buffer) this.seen = new DataView(buffer, this.place, 512);
         return this.seen;
     }
     // Lends bytes to a call by their address and length.
@@ -116,6 +116,17 @@ class Session {
         const answer = this.module.lend(keys, (at, n) => this.module.lend(output || new Uint8Array(0), (sent, m) =>
             this.call('explore', limit, at, n, this.place, 0n, this.place, 0n, output ? 1 : 0, sent, m, this.place) & 255)), v = this.module.told();
         return { answer, kind: v.getUint32(0, true), states: v.getUint32(4, true), events: Number(v.getBigUint64(8, true)), verdict: VERDICTS[v.getUint32(16, true)] };
+    }
+    // Every run by turns in which a ready processor is passed over at most so often, at choices of which none comes before `from` and each
+    // before `within`, from the boot of this file. Without an output null; the events that a wrong run's verdict needs are the session's bytes.
+    delays(file, plan, { most, from, within }, n, hung, keys, output) {
+        const lists = this.place + 128n, found = this.place + 192n, { module } = this, told = module.told();
+        told.setUint32(128, most, true); told.setUint32(132, from, true); told.setUint32(136, within, true);
+        const answer = module.lend(file, (image, size) => module.lend(keys, (at, m) => module.lend(output || new Uint8Array(0), (sent, length) =>
+            this.call('delays', image, size, this.plan(plan), lists, BigInt(n), hung, at, m, this.place, 0n, this.place, 0n, output ? 1 : 0, sent, length, found) & 255)));
+        const v = module.told(), long = at => Number(v.getBigUint64(192 + at, true));
+        return { answer, verdict: VERDICTS[v.getUint32(192, true)], runs: long(24), cut: long(32), events: long(40),
+            delays: Array.from({ length: v.getUint32(240, true) }, (_, i) => v.getUint32(244 + 4 * i, true)) };
     }
     made() { return Number(this.call('made')); }
     output() { return this.call('output') & 255; }

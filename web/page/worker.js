@@ -178,7 +178,7 @@ function joined(parts) {
     return bytes;
 }
 
-// ---- The search: all states, where they are few enough; then runs of seeds, judged at their ends
+// ---- The search: all states, where they are few enough; then every run with few delays, and runs of seeds, judged at their ends
 
 // What is wrong with a run that ended so; '' for nothing.
 function judged(rules, session, stop) {
@@ -218,11 +218,13 @@ function blocksNamed(numbers, processors, keys) {
     return merged(Array.from(numbers, n => n < processors ? { kind: 0, value: n, n: 1 } : n === processors ? { kind: 2, value: 0, n: 1 } : { kind: 1, value: keys[typed++], n: 1 }));
 }
 
-const EXPLORE_MS = 6000, MOST_STATES = 1 << 20; // how long and how far is explored, before the seeds
+const EXPLORE_MS = 6000, MOST_STATES = 1 << 20; // how long and how far is explored, before the delays
+// For how long delays are tried, before the seeds: two at most, in turns of so many Steps, in runs of so many events.
+const DELAYS_MS = 4000, MOST_DELAYS = 2, DELAYED_TURNS = 50, DELAYED_EVENTS = 5000, MOST_CHOICES = 1 << 12, FEW_STATES = 2000;
 
 class Hunt {
     constructor({ file, size, plan, keys, limit, rules, from, most }, tell) {
-        Object.assign(this, { plan, keys, limit, rules, from, most, tell, id: ++hunting, bad: '', seed: from, processors: size.processors });
+        Object.assign(this, { file, plan, keys, limit, rules, from, most, tell, id: ++hunting, bad: '', seed: from, processors: size.processors });
         this.base = booted(file, { ...size, log: limit }); this.tried = new Session(engine);
     }
     get isOn() { return this.id === hunting; }
@@ -249,6 +251,26 @@ class Hunt {
         if (found.kind === HUNG && !this.rules.end) return { ...found, kind: CLEAN };
         if (found.kind === FOUND || found.kind === HUNG) found.blocks = blocksNamed(this.base.read(), this.processors, this.keys);
         return found;
+    }
+    // Every run by turns with few delays at the first choices: of twice as many choices each time, as long as the next try fits the time.
+    // null where a run may be stuck, or has to send something and need not end: no such search excuses that.
+    async delays() {
+        const { stuck, end, output } = this.rules;
+        if (!stuck || (!end && output !== null)) return null;
+        const plan = { kind: TURNS, turns: DELAYED_TURNS, transfer: this.plan.transfer, gap: this.plan.gap };
+        const sent = output === null ? null : Uint8Array.from(output, c => c.charCodeAt(0)), n = Math.min(this.limit, DELAYED_EVENTS);
+        for (let within = 16, until = performance.now() + DELAYS_MS; ; within *= 2) {
+            const start = performance.now();
+            const found = this.base.delays(this.file, plan, { most: MOST_DELAYS, from: 0, within }, n, end ? FEW_STATES : 0, this.keys, sent);
+            if (found.answer === NO_MEMORY) throw new OutOfMemory();
+            if (found.answer !== OK) throw new Refused(REFUSALS[found.answer]);
+            if (found.verdict) return { ...found, blocks: blocksNamed(this.base.read(), this.processors, this.keys) };
+            const now = performance.now();
+            // (a list with one choice more may have no run of its own: then the next try has no more runs)
+            if (!this.isOn || within >= MOST_CHOICES || now + 5 * (now - start) > until) return { ...found, within };
+            this.tell({ runs: found.runs });
+            await breathe();
+        }
     }
     async seeds() {
         while (this.isOn && this.seed < this.most && !this.bad) {
@@ -287,9 +309,10 @@ class Hunt {
         if (explored && (explored.kind === FOUND || explored.kind === HUNG)) return this.first(explored);
         const right = explored && explored.kind === CLEAN;
         if (right && !this.rules.word) return { right: explored.states, tried: 0 };
+        const open = explored && explored.kind === OPEN ? explored : null, delayed = open && this.isOn ? await this.delays() : null;
+        if (delayed && delayed.verdict) return this.delayed(delayed);
         await this.seeds();
-        const answer = { tried: this.seed - this.from, stopped: !this.isOn, bad: this.bad,
-            open: explored && explored.kind === OPEN ? explored : null, states: right ? explored.states : 0 };
+        const answer = { tried: this.seed - this.from, stopped: !this.isOn, bad: this.bad, open, delayed, states: right ? explored.states : 0 };
         if (!this.bad) return answer;
         // A run that is to be stuck goes on in turns of a million; one that isn't over in turns of 60, since it has to be fair: else a
         // processor would spin only because the other one makes no Step.
@@ -301,6 +324,11 @@ class Hunt {
     // The first list of events that goes wrong, or has no end: that goes on in turns of 60, which is as fair as it gets.
     first({ kind, verdict, states, events, blocks }) {
         return { bad: kind === HUNG ? 'hung' : verdict === 'output' ? 'another output' : verdict, states, events, blocks, first: true, then: { turns: kind === HUNG ? 60 : 1000000 } };
+    }
+    // The run of the first list of delays that goes wrong, up to its verdict; it goes on as a list of an exploration does.
+    delayed({ verdict, delays, events, blocks }) {
+        const bad = verdict === 'output' ? 'another output' : verdict === 'end' ? 'not off' : verdict;
+        return { bad, delays, events, blocks, then: { turns: bad === 'hung' || bad === 'not off' ? 60 : 1000000 } };
     }
     close() { if (!this.base.module.trapped) { this.base.close(); this.tried.close(); } }
 }

@@ -12,7 +12,7 @@ use Rattle.m161_steplog.specs.Schedule.{AreScheduleLines}
 use Rattle.s161_base.specs.Faults.{fault_of_boot}
 use Rattle.s161_base.specs.Texts.{IsLogFault, IsScheduleFault}
 use Rattle.s161_base.specs.declared.fault.Fault.{Fault}
-use Rattle.s161_base.specs.declared.fault.Fault.TheVariants.{Conf, File, Image, Input, Log, LogImage, LogMachine, Memory, Never, Output, Schedule, Source, Threads, Touches, Watch, Watches, Word}
+use Rattle.s161_base.specs.declared.fault.Fault.TheVariants.{After, Conf, File, Image, Input, Log, LogImage, LogMachine, Memory, Never, Output, Schedule, Source, Threads, Touches, Watch, Watches, Word}
 
 -- Why a command ends early: `P` is what is said of its fault.
 
@@ -28,6 +28,7 @@ schedule_failed P text (Watch k) line memory h = absurd h
 schedule_failed P text (Never word) line memory h = absurd h
 schedule_failed P text (Touches word) line memory h = absurd h
 schedule_failed P text (Threads cause) line memory h = absurd h
+schedule_failed P text (After k why) line memory h = absurd h
 schedule_failed P text Conf line memory h = absurd h
 schedule_failed P text (Image e) line memory h = absurd h
 schedule_failed P text (Input why) line memory h = absurd h
@@ -49,6 +50,7 @@ log_failed P text (Watch k) line memory h = absurd h
 log_failed P text (Never word) line memory h = absurd h
 log_failed P text (Touches word) line memory h = absurd h
 log_failed P text (Threads cause) line memory h = absurd h
+log_failed P text (After k why) line memory h = absurd h
 log_failed P text Conf line memory h = absurd h
 log_failed P text (Image e) line memory h = absurd h
 log_failed P text (Input why) line memory h = absurd h

@@ -14,8 +14,11 @@ use Rattle.m161_elf.specs.declared.image.LoadError.{LoadError}
 use Rattle.m161_elf.specs.declared.image.LoadError.TheVariants as load
 use Rattle.m161_text.specs.Parts.{◌␣◌, hex_digit, hex_text}
 use Rattle.m161_text.proofs.Hex.{hex_digit_above}
+use Rattle.m161_machine.specs.declared.event.Refusal.{Refusal}
+use Rattle.m161_machine.specs.declared.event.Refusal.TheVariants as refusals
+use Rattle.m161_machine.specs.Refusal.{name_of_refusal, number_of_refusal}
 use Rattle.s161_base.specs.declared.fault.Fault.{Fault}
-use Rattle.s161_base.specs.declared.fault.Fault.TheVariants.{Conf, File, Image, Input, Log, LogImage, LogMachine, Memory, Never, Output, Schedule, Source, Threads, Touches, Watch, Watches, Word}
+use Rattle.s161_base.specs.declared.fault.Fault.TheVariants.{After, Conf, File, Image, Input, Log, LogImage, LogMachine, Memory, Never, Output, Schedule, Source, Threads, Touches, Watch, Watches, Word}
 use Rattle.s161_base.specs.declared.fault.Unread.{Unread}
 use Rattle.s161_base.specs.declared.fault.Unread.TheVariants.{Failed, NotUtf8, TooLong}
 use Rattle.s161_base.specs.Excerpts.{characters_of}
@@ -122,6 +125,14 @@ source e =
     (front (decimal e.line ++ codes ":") (decimal e.column) (front (decimal e.line) (codes ":") (number e.line) refl) (number e.column))
     (spaced (decimal (number_of_kind e.kind)) (name_of_kind e.kind) (number (number_of_kind e.kind)) (kind e.kind))
 
+refusal : (r : Refusal) → IsPlain (name_of_refusal r)
+refusal refusals.BadProcessor = refl
+refusal refusals.Off = refl
+refusal refusals.Worn = refl
+refusal refusals.KeyFull = refl
+refusal refusals.NothingSent = refl
+refusal refusals.NoMemory = refl
+
 pub head : (fault : Fault) → IsPlain (fault_head fault)
 head (File file why) = spaced (codes "s161: file") (shown_name file.now) refl (name file.now)
 head (Schedule n) = spaced (codes "s161: schedule line") (decimal n) refl (number n)
@@ -132,6 +143,10 @@ head (Watches n) = spaced (codes "s161: watches line") (decimal n) refl (number 
 head (Watch k) = spaced (codes "s161: watch") (decimal k) refl (number k)
 head (Never word) = spaced (codes "s161: never") (shown_name word.now) refl (name word.now)
 head (Touches word) = spaced (codes "s161: touches") (shown_name word.now) refl (name word.now)
+head (After k r) =
+    spaced (codes "s161: after") (decimal k ␣ decimal (number_of_refusal r) ␣ name_of_refusal r) refl
+    (spaced (decimal k) (decimal (number_of_refusal r) ␣ name_of_refusal r) (number k)
+    (spaced (decimal (number_of_refusal r)) (name_of_refusal r) (number (number_of_refusal r)) (refusal r)))
 head Conf = refl
 head (Image e) =
     spaced (codes "s161: image") (decimal (number_of_fault e) ␣ name_of_fault e) refl
@@ -196,6 +211,7 @@ why (Watches n) = refl
 why (Watch k) = refl
 why (Never word) = refl
 why (Touches word) = refl
+why (After k r) = refl
 why Conf = refl
 why (Image e) = image_why e
 why (Source e) = source_why e.error.kind
@@ -221,6 +237,7 @@ detail (Watches n) = refl
 detail (Watch k) = refl
 detail (Never word) = refl
 detail (Touches word) = refl
+detail (After k r) = refl
 detail Conf = refl
 detail (Image e) = refl
 detail (Source e) = quoted_plain (characters_of e.word)

@@ -4,6 +4,7 @@
 
 ghost use Rattle.std.specs.Prelude.{◌≡◌, ◌++◌, IfErr, OnOk, codes, decimal, option_map};
 ghost use Rattle.std.specs.Io.KnownBytes.{Appends};
+ghost use Rattle.m161_machine.specs.Refusal.{name_of_refusal, number_of_refusal};
 ghost use Rattle.m161_text.specs.Lines.{with_line_end};
 ghost use Rattle.m161_text.specs.Parts.{◌␣◌};
 ghost use Rattle.s161_base.specs.Explained.{explanation_of};
@@ -15,6 +16,7 @@ use crate::explained::explanation;
 use crate::fault::Fault;
 use crate::pieces::{put, put_characters, put_name, put_number};
 use m161_asm::AsmError;
+use m161_machine::Refusal;
 use std::io::Write;
 
 // Writes two texts.
@@ -59,6 +61,17 @@ fn put_source<'a, E: Write>(error: AsmError, errors: &mut E) -> Result<(), Fault
     put_error(error.kind.number(), error.kind.name(), errors)
 }
 
+// Writes the number of an event that was refused, and why.
+fn put_refusal<'a, E: Write>(k: u64, refusal: Refusal, errors: &mut E) -> Result<(), Fault<'a>>
+    ensures { Puts (E.contents errors.old)
+        (decimal k ␣ decimal (number_of_refusal refusal) ␣ name_of_refusal refusal) result
+        (E.contents errors.new) }
+{
+    put_number(k, errors)?;
+    put(" ", errors)?;
+    put_error(refusal.number(), refusal.name(), errors)
+}
+
 // Writes what a script reads of a fault.
 fn put_head<'a, E: Write>(fault: Fault<'_>, errors: &mut E) -> Result<(), Fault<'a>>
     ensures { Puts (E.contents errors.old) (fault_head fault.entry) result (E.contents errors.new) }
@@ -83,9 +96,8 @@ fn put_head<'a, E: Write>(fault: Fault<'_>, errors: &mut E) -> Result<(), Fault<
             put_name(word, errors)
         }
         Fault::After(k, refusal) => {
-            put_numbered("s161: after ", k, errors)?;
-            put(" ", errors)?;
-            put_error(refusal.number(), refusal.name(), errors)
+            put("s161: after ", errors)?;
+            put_refusal(k, refusal, errors)
         }
         Fault::Conf => put("s161: conf", errors),
         Fault::Image(error) => {

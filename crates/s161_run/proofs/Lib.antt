@@ -1,4 +1,5 @@
 pub mod Asking
+mod Following
 mod Failing
 pub mod Making
 mod Shown

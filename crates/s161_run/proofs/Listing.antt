@@ -1,18 +1,20 @@
-use Rattle.std.proofs.Common.{◌≡◌, ℕ, List, Option, Some, Err, IfSome, inl, inr, refl, subst}
+use Rattle.std.proofs.Common.{◌≡◌, ℕ, Bor, List, Option, None, Some, Err, IfSome, inl, inr, refl, subst}
 use Rattle.m161_machine.specs.declared.conf.BootError.{BootError}
 use Rattle.m161_machine.specs.declared.conf.BootError.TheVariants.{Load}
 use Rattle.m161_machine.specs.declared.conf.Conf.{Conf as MachineConf}
 use Rattle.m161_machine.specs.declared.event.Event.{Event}
 use Rattle.m161_machine.specs.History.{BootsState, boot_fault}
+use Rattle.s161_command.specs.declared.drive.Drive.{Drive}
 use Rattle.s161_command.specs.declared.task.AskedSize.{AskedSize}
 use Rattle.s161_command.specs.declared.task.RunTask.{RunTask}
 use Rattle.s161_base.proofs.Failing.{state_failed}
 use Rattle.s161_base.proofs.Listing.{named_fault}
 use Rattle.s161_base.specs.declared.fault.Fault.{Fault}
-use Rattle.s161_base.specs.declared.fault.Fault.TheVariants.{Conf, File, Image, Input, Log, LogImage, LogMachine, Memory, Never, Output, Schedule, Source, Threads, Touches, Watch, Watches, Word}
+use Rattle.s161_base.specs.declared.fault.Fault.TheVariants.{After, Conf, File, Image, Input, Log, LogImage, LogMachine, Memory, Never, Output, Schedule, Source, Threads, Touches, Watch, Watches, Word}
 use Rattle.s161_base.specs.Faults.{fault_of_boot}
 use Rattle.s161_base.specs.Known.{IsText}
-use Rattle.s161_base.specs.Listed.{IsListFault, ListsFor, ListsNone}
+use Rattle.s161_base.specs.Listed.{IsListFault, IsTextOf, ListsFor, ListsNoFirst, ListsNone}
+use Rattle.s161_run.specs.Driven.{AreInputs, IsOrderFault}
 use Rattle.s161_run.specs.Runs.{IsFaultOf}
 
 -- Why the events of a text aren't run.
@@ -32,6 +34,7 @@ module _ (P : Fault → Type 0) (asked : AskedSize) (file text : List ℕ)
   bad_line (Watch k) h = absurd h
   bad_line (Never word) h = absurd h
   bad_line (Touches word) h = absurd h
+  bad_line (After k why) h = absurd h
   bad_line (Threads cause) h = absurd h
   bad_line (Input why) h = absurd h
   bad_line Word h = absurd h
@@ -59,4 +62,26 @@ module _ (task : RunTask) (known input : Option (List ℕ)) (file text : List �
       state_failed (IsFaultOf task known input) (Some file) conf file e refl
       (λ outside. (file, is_file, (text, is, (utf8, (events, conf, lists, outside)))))
       (λ x has. (file, is_file, (text, is, (utf8, (events, conf, lists, subst (λ f. boot_fault f conf ≡ Some (Load x)) has.1 has.2)))))
+      tt answer
+
+-- Why the first events of an order aren't listed.
+
+module _ (image : Bor (List ℕ)) (size : AskedSize) (options : Drive) (files : List ℕ → Option (List ℕ)) (known : Option (List ℕ)) (file : List ℕ)
+    (is_file : IfSome known (λ bytes. file ≡ bytes)) where
+  abbrev OrderFault : Fault → Type 0
+  OrderFault = IsOrderFault image size options files known
+
+  pub no_first : (text : Option (List ℕ)) (fault : Fault) → IsTextOf options.after files text → ListsNoFirst size file text fault → OrderFault fault
+  no_first None fault is h = absurd h
+  no_first (Some text) fault is h =
+      unlisted_by OrderFault size file text (λ n bad. (file, is_file, (Some text, is, inl bad))) (λ n bad. (file, is_file, (Some text, is, inl bad))) tt
+      (λ none. (file, is_file, (Some text, is, none))) (λ none. (file, is_file, (Some text, is, none))) fault h
+
+  -- they are listed, and the image isn't booted
+  pub order_unbooted : (keys : List ℕ) (first : List Event) (conf : MachineConf) (e : BootError) → AreInputs size options files known file keys first conf →
+      BootsState file conf (boot_fault file conf) (Err e) → OrderFault (fault_of_boot e)
+  order_unbooted keys first conf e inputs answer =
+      state_failed OrderFault (Some file) conf file e refl
+      (λ outside. (file, is_file, (inputs.text, first, conf, inputs.is_text, inputs.lists, outside)))
+      (λ x has. (file, is_file, (inputs.text, first, conf, inputs.is_text, inputs.lists, subst (λ f. boot_fault f conf ≡ Some (Load x)) has.1 has.2)))
       tt answer

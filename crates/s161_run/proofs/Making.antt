@@ -103,7 +103,7 @@ again_none has s notes e = record {
   noted = λ room so_far h. subst (λ es. has room notes es) (sym (append-nil so_far)) h;
 }
 
-noted_more : {A : Type 0} (has : ℕ → A → List Entry → Type 0) (old mid new : A) (es fs : List Entry) → IsNoted has old es mid → IsNoted has mid fs new →
+pub noted_more : {A : Type 0} (has : ℕ → A → List Entry → Type 0) (old mid new : A) (es fs : List Entry) → IsNoted has old es mid → IsNoted has mid fs new →
     IsNoted has old (es ++ fs) new
 noted_more has old mid new es fs h k room before is =
     subst (λ xs. has room new xs) (append_assoc before es fs) (k room (before ++ es) (h room before is))

@@ -1,4 +1,4 @@
-use Rattle.std.specs.Prelude.{◌≡◌, ◌≢◌, ℕ, ◌+◌, ◌-◌, min, List, ◌++◌, length}
+use Rattle.std.specs.Prelude.{◌≡◌, ◌≢◌, ℕ, ◌+◌, ◌-◌, min, List, ◌++◌, length, Option}
 use Rattle.m161_machine.specs.declared.event.Conflict.{Conflict}
 use Rattle.m161_machine.specs.declared.event.Entry.{Entry}
 use Rattle.m161_machine.specs.declared.event.Event.{Event}
@@ -6,14 +6,22 @@ use Rattle.m161_machine.specs.declared.event.Refusal.{Refusal}
 use Rattle.m161_machine.specs.History.{events_of}
 use Rattle.m161_machine.specs.State.{State}
 use Rattle.m161_drive.specs.declared.run.Driven.{Driven}
+use Rattle.m161_drive.specs.declared.run.Stop.{Stop as DriveStop}
+use Rattle.m161_drive.specs.declared.run.Stop.TheVariants as drive
 use Rattle.m161_drive.specs.Drive.{Drives}
 use Rattle.m161_drive.specs.Policy.{Rules}
 use Rattle.s161_run.specs.declared.events.RunStop.{RunStop}
-use Rattle.s161_run.specs.declared.events.RunStop.TheVariants.{Off, Conflict as ConflictStop, End, Stuck, Refused}
-use Rattle.s161_run.specs.Driven.{told}
-use Rattle.s161_run.specs.Runs.{MakesEvents}
+use Rattle.s161_run.specs.declared.events.RunStop.TheVariants.{End, Stuck, Refused}
+use Rattle.s161_run.specs.Runs.{MakesEvents, stop_off}
 
 -- A run by an order, behind first events: those of the file of `--after`, or none.
+
+-- how a driven run stopped that made so many events and has this conflict, as a command tells it
+abbrev pub told : ℕ → Option Conflict → DriveStop → RunStop
+told made conflict drive.Off = stop_off conflict
+told made conflict drive.End = End
+told made conflict drive.Stuck = Stuck
+told made conflict (drive.Refused refusal) = Refused made refusal
 
 -- where all of the first events were made, in a state that is on, the policy's follow them, at most n,
 -- chosen by a new cursor; where one of them was refused or switched the machine off, it chooses none
@@ -65,7 +73,7 @@ abbrev pub TakesAll :
     Rules → ℕ → RunStop → List Event → State → List Event → Type 0
 TakesAll rules n End events u taken =
     (driven : Driven) × (more : List Entry) × (t : State) × Drives rules n u driven more t
-    × WasAccepted (told (length events + driven.made) t.conflict driven.stop)
+    × ((refusal : Refusal) → driven.stop ≢ drive.Refused refusal)
     × (taken ≡ events ++ events_of more)
 TakesAll rules n why events u taken = taken ≡ events
 

@@ -1,4 +1,5 @@
 -- Definitions that only contracts of private functions, or proofs, use.
+pub mod Behind
 pub mod Consoles
 pub mod Events
 pub mod Made

@@ -7,21 +7,19 @@ ghost use Rattle.s161_base.specs.Samples.{image_file};
 ghost use Rattle.s161_run.specs.Driven.{IsDriven, IsDrivenFault, driven_files, stop_of};
 
 use crate::events::{RunStop, stop_off};
+use crate::inputs::{Inputs, read_inputs};
 use crate::log::new_log;
 use crate::made::make_chosen;
-use crate::policy::read_keys;
 use crate::summary::{Ran, finish_run};
 use m161::Core;
 use m161_drive::Driven;
 use s161_base::fault::Fault;
 use s161_base::files::FileSource;
-use s161_base::machines::conf_asked;
-use s161_base::sample::read_image;
 use s161_command::DrivenTask;
 use std::alloc::Global;
 
-/// Reads the image and then the keys, boots the image, and makes the events that the policy
-/// chooses.
+/// Reads the image, the text of the events that come first, and the keys; boots the image, and makes the
+/// first events and then those that the policy chooses.
 ///
 /// # Errors
 /// The first fault.
@@ -35,19 +33,26 @@ pub fn run_driven<'a, F: FileSource>(
     requires { order_fault task.drive.order ≡ None }
     ensures ok { IfOk result (λ done. IsDriven task.entry (F.known files.old)
         (image_file (F.known files.old) task.entry.run.image.now) done.text.items done.stop) }
-    ensures fault { IfErr result (IsDrivenFault task.entry
+    ensures fault { IfErr result (IsDrivenFault task.entry (F.known files.old)
         (image_file (F.known files.old) task.entry.run.image.now)) }
     ensures asks { AsksFor (driven_files task.entry) result (F.asked files.old)
         (F.asked files.new) }
 {
-    let file = read_image(alloc, files, task.run.image)?;
-    let image = file.as_slice();
-    let keys = read_keys(alloc, files, task.drive.keys)?;
-    let conf = conf_asked(task.run.size);
-    let mut core = Core::boot(alloc, image, conf)?;
-    let log = new_log(alloc, conf, task.run.shown)?;
-    let made = make_chosen(alloc, &mut core, task.drive, &keys, log, task.run.traps)?;
-    let done = finish_run(alloc, &core, made, image, task.run.shown)?;
+    let read = read_inputs(alloc, files, task.run.image, task.run.size, task.drive)?;
+    let Inputs { file, keys, first } = read;
+    let mut core = Core::boot(alloc, &file, first.conf)?;
+    let log = new_log(alloc, first.conf, task.run.shown)?;
+    let events = &first.events;
+    let made = make_chosen(
+        alloc,
+        &mut core,
+        events,
+        task.drive,
+        &keys,
+        log,
+        task.run.traps,
+    )?;
+    let done = finish_run(alloc, &core, made, &file, task.run.shown)?;
     Ok(done)
 }
 

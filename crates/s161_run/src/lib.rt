@@ -1,5 +1,5 @@
 //! The commands that run a machine: `demo`; `run`, under a schedule, by a policy or in threads;
-//! `replay`, which runs it again by its log; `schedule`, which prints the events that a policy chooses;
+//! `replay`, which runs it again by its log; `schedule`, which prints the events of a run by an order;
 //! and `console`, where the bytes of standard input are the keys of a driven run, and what its console
 //! sends goes to standard output.
 #![tactic(auto)]
@@ -9,6 +9,7 @@ pub mod console;
 pub mod demo;
 pub mod driven;
 pub mod events;
+pub mod inputs;
 mod keys;
 pub mod laws;
 mod log;

@@ -8,14 +8,12 @@ ghost use Rattle.m161_traps.specs.Traps.{trap_lines};
 ghost use Rattle.s161_run.specs.Runs.{told_traps};
 ghost use Rattle.s161_run.specs.helpers.Made.{IsDrivenMade, IsMade};
 
-use crate::driven::stop_of;
+use crate::behind::make_behind;
 use crate::events::{RunStop, make_events};
-use crate::policy::make_driven;
-use crate::schedule::events_made;
 use circular_buffer::HeapCircularBuffer;
 use m161::{Core, Machine};
 use m161_drive::Notes;
-use m161_machine::{Event, Events, PackedEntry};
+use m161_machine::{Entry, Event, Events, PackedEntry};
 use m161_traps::{find_traps, show_traps};
 use s161_command::Drive;
 use std::alloc::{AllocError, Global};
@@ -51,6 +49,17 @@ impl Notes for Kept {
         self.events.add(entries)?;
         Ok(())
     }
+}
+
+// The events of these entries.
+fn events_made(alloc: Global, entries: &[Entry]) -> Result<Vec<Event>, AllocError>
+    ensures { IfOk result (λ events. events.items ≡ events_of entries.now) }
+{
+    let mut events = Vec::new(alloc);
+    for entry in entries {
+        events.push(entry.event)?;
+    }
+    Ok(events)
 }
 
 // The lines of the traps of events that are made on a machine.
@@ -112,13 +121,15 @@ fn count_scheduled(
     Ok(Made { stop, log, traps })
 }
 
-/// Makes the events that the options' policy chooses, and keeps and counts the same of them.
+/// Makes the first events and then those that the options' policy chooses, and keeps and counts the same
+/// of them.
 ///
 /// # Errors
 /// Memory was refused.
 pub(crate) fn make_chosen(
     alloc: Global,
     core: &mut Core,
+    first: &Events,
     options: Drive<'_>,
     keys: &[u8],
     log: HeapCircularBuffer<PackedEntry>,
@@ -126,16 +137,16 @@ pub(crate) fn make_chosen(
 ) -> Result<Made, AllocError>
     requires order { order_fault options.order ≡ None }
     requires empty { log.items ≡ [] }
-    ensures { IfOk result (λ made. IsDrivenMade options.entry keys.now core.old.state log.capacity traps
-        core.new.state made.stop made.log.items (string_bytes made.traps)) }
+    ensures { IfOk result (λ made. IsDrivenMade options.entry keys.now core.old.state first.now
+        log.capacity traps core.new.state made.stop made.log.items (string_bytes made.traps)) }
 {
     if traps {
-        return count_chosen(alloc, core, options, keys, log);
+        return count_chosen(alloc, core, first, options, keys, log);
     }
     let mut log = log;
-    let driven = make_driven(core, options, keys, &mut log)?;
+    let stop = make_behind(core, first, options, options.events, keys, &mut log)?;
     Ok(Made {
-        stop: stop_of(driven, core),
+        stop,
         log,
         traps: String::new(alloc),
     })
@@ -145,28 +156,25 @@ pub(crate) fn make_chosen(
 fn count_chosen(
     alloc: Global,
     core: &mut Core,
+    first: &Events,
     options: Drive<'_>,
     keys: &[u8],
     log: HeapCircularBuffer<PackedEntry>,
 ) -> Result<Made, AllocError>
     requires order { order_fault options.order ≡ None }
     requires empty { log.items ≡ [] }
-    ensures { IfOk result (λ made. IsDrivenMade options.entry keys.now core.old.state log.capacity true
-        core.new.state made.stop made.log.items (string_bytes made.traps)) }
+    ensures { IfOk result (λ made. IsDrivenMade options.entry keys.now core.old.state first.now
+        log.capacity true core.new.state made.stop made.log.items (string_bytes made.traps)) }
 {
-    let mut first = core.copy(alloc)?;
+    let mut before = core.copy(alloc)?;
     let mut kept = Kept {
         log,
         events: Vec::new(alloc),
     };
-    let driven = make_driven(core, options, keys, &mut kept)?;
+    let stop = make_behind(core, first, options, options.events, keys, &mut kept)?;
     let Kept { log, events } = kept;
-    let traps = lines_of(alloc, &mut first, &events)?;
-    Ok(Made {
-        stop: stop_of(driven, core),
-        log,
-        traps,
-    })
+    let traps = lines_of(alloc, &mut before, &events)?;
+    Ok(Made { stop, log, traps })
 }
 
 /// The lines of the traps of a machine's log, made again from the log's base, where they are counted.

@@ -36,24 +36,24 @@ pub fn read_keys<'a, F: FileSource>(
     }
 }
 
-/// Makes the events that the options' policy chooses, and notes their entries.
+/// Makes the events that the options' policy chooses, at most `n`, and notes their entries.
 ///
 /// # Errors
 /// Memory was refused for the notes.
 pub(crate) fn make_driven<N: Notes>(
     core: &mut Core,
     options: Drive<'_>,
+    n: u64,
     keys: &[u8],
     notes: &mut N,
 ) -> Result<Driven, AllocError>
     requires { order_fault options.order ≡ None }
     ensures { IfOk result (λ driven. (entries : List Entry)
-        × Drives (rules_of options.entry keys.now) options.entry.events core.old.state driven entries
-        core.new.state
+        × Drives (rules_of options.entry keys.now) n core.old.state driven entries core.new.state
         × IsNoted N.has notes.old entries notes.new) }
 {
     let Ok(policy) = Policy::new(options.order, options.transfer, options.gap, keys) else {
         unreachable!()
     };
-    drive(core, &policy, options.events, notes)
+    drive(core, &policy, n, notes)
 }

@@ -1,13 +1,12 @@
 use Rattle.std.specs.Prelude.{◌≡◌, ℕ, Bool, List}
 use Rattle.circular_buffer.specs.Buffer.{keep_last}
-use Rattle.m161_drive.specs.Drive.{Drives}
-use Rattle.m161_drive.specs.declared.run.Driven.{Driven}
 use Rattle.m161_machine.specs.History.{events_of}
 use Rattle.m161_machine.specs.State.{State}
 use Rattle.m161_machine.specs.declared.event.Entry.{Entry}
 use Rattle.m161_machine.specs.declared.event.Event.{Event}
 use Rattle.s161_command.specs.declared.drive.Drive.{Drive}
-use Rattle.s161_run.specs.Driven.{rules_of, stop_of}
+use Rattle.s161_run.specs.Behind.{GoesBehind}
+use Rattle.s161_run.specs.Driven.{rules_of}
 use Rattle.s161_run.specs.Runs.{MakesEvents, told_traps}
 use Rattle.s161_run.specs.declared.events.RunStop.{RunStop}
 
@@ -22,13 +21,11 @@ pub record IsMade
   pub last_are : last ≡ keep_last room entries
   pub lines_are : lines ≡ told_traps counted s (events_of entries)
 
--- the events were made that a policy chose
+-- the first events were made, and those that a policy chose behind them
 pub record IsDrivenMade
-    (options : Drive) (keys : List ℕ) (s : State) (room : ℕ) (counted : Bool) (t : State)
-    (stop : RunStop) (last : List Entry) (lines : List ℕ) : Type 0 where
-  pub driven : Driven
+    (options : Drive) (keys : List ℕ) (s : State) (first : List Event) (room : ℕ) (counted : Bool)
+    (t : State) (stop : RunStop) (last : List Entry) (lines : List ℕ) : Type 0 where
   pub entries : List Entry
-  pub drives : Drives (rules_of options keys) options.events s driven entries t
-  pub stop_is : stop ≡ stop_of driven t
+  pub goes : GoesBehind (rules_of options keys) options.events s first stop entries t
   pub last_are : last ≡ keep_last room entries
   pub lines_are : lines ≡ told_traps counted s (events_of entries)

@@ -61,3 +61,9 @@ returns-in-Input g c = elim c.in-Input.is [
   | inl input ↦ rw input.1 c.put-in-Input.ensures
   | inr word ↦ rw word c.put-in-Input.ensures
 ]
+
+pub returns-in_err-put-in-After : goal.returns-in_err-put-in-After
+returns-in_err-put-in-After g c = rw c.in-After.is (puts_less _ _ _ _ _ _ c.in_err-put-in-After.ensures c.from_residual-in_err-put-in-After.ensures.1)
+
+pub returns-in_ok-put-in-After : goal.returns-in_ok-put-in-After
+returns-in_ok-put-in-After g c = rw c.in-After.is (puts_then _ _ _ _ _ _ c.in_ok-put-in-After.ensures c.put_refusal.ensures)

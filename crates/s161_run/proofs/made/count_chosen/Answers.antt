@@ -7,15 +7,13 @@ use Rattle.s161_run.proofs.made.count_chosen.Goals as goal
 
 pub returns : goal.returns
 returns c =
-    let made = c.in_ok-driven.ensures in
+    let made = c.in_ok-stop.ensures in
     let room = c.args.log.capacity in
     let kept = made.2 room [] (refl, empty_kept room c.args.log.items c.requires.empty, c.new.ensures.items) in
     let events : c.deref.result.now ≡ events_of made.0 = c.deref.ensures.value ∙ kept.2 in
     record {
-      driven = c.in_ok-driven.driven;
       entries = made.0;
-      drives = made.1;
-      stop_is = c.stop_of.ensures;
+      goes = made.1;
       last_are = kept.1;
-      lines_are = c.in_ok-traps.ensures ∙ (λ i. traps_text (trap_lines (c.in_ok-first.ensures.state i) (events i)));
+      lines_are = c.in_ok-traps.ensures ∙ (λ i. traps_text (trap_lines (c.in_ok-before.ensures.state i) (events i)));
     }

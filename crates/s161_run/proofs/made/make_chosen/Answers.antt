@@ -6,12 +6,10 @@ use Rattle.s161_run.proofs.made.make_chosen.Goals as goal
 
 pub returns : goal.returns
 returns c =
-    let made = c.in_ok-driven.ensures in
+    let made = c.in_ok-stop.ensures in
     record {
-      driven = c.in_ok-driven.driven;
       entries = made.0;
-      drives = made.1;
-      stop_is = c.stop_of.ensures;
-      last_are = logged c.args.log.capacity c.args.log c.make_driven.new.notes made.0 refl c.requires.empty made.2;
+      goes = made.1;
+      last_are = logged c.args.log.capacity c.args.log c.make_behind.new.notes made.0 refl c.requires.empty made.2;
       lines_are = c.new.ensures.bytes ∙ ap (λ counted. told_traps counted c.args.core.now.state (events_of made.0)) (sym c.if-traps.false);
     }

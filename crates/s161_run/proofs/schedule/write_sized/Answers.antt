@@ -10,5 +10,5 @@ returns-clause-read c = λ few.
     let is = ap (λ v. v.items) c.into_bytes.ensures.value ∙ c.in_ok-push_str.ensures.bytes
     ∙ ap₂ (λ (a b : List ℕ). a ++ b) c.in_ok-text.ensures c.as_str.ensures.value in
     subst P (sym is)
-    (c.schedule_behind_size_line.ensures.schedule (machine_size c.args.size) (string_bytes c.in_ok-lines.lines) c.args.events.now
+    (c.schedule_behind_size_line.ensures.schedule (machine_size c.args.conf) (string_bytes c.in_ok-lines.lines) c.args.events.now
     (record { ram = omega arith; processors = omega arith }) (c.in_ok-lines.ensures.read few))

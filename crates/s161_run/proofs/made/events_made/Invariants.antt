@@ -1,7 +1,7 @@
 use Rattle.std.proofs.Common.{◌≡◌}
 use Rattle.std.specs.Prelude.{take}
 use Rattle.m161_machine.specs.History.{events_of}
-use Rattle.s161_run.proofs.schedule.events_made.Given as goal
+use Rattle.s161_run.proofs.made.events_made.Given as goal
 
 -- the events of the entries so far
 abbrev pub invariant-loop-entry : goal.invariant-loop-entry
