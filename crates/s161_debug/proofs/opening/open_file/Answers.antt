@@ -1,4 +1,4 @@
-use Rattle.std.proofs.Common.{◌≡◌, List, ℕ, [], ◌∷◌, IfSome, Some, inl, inr, refl, subst, sym}
+use Rattle.std.proofs.Common.{◌≡◌, List, ℕ, [], ◌∷◌, IfSome, Some, inl, inr, subst, sym}
 use Rattle.m161_machine.specs.declared.event.Event.{Event}
 use Rattle.std.proofs.lemmas.Result.{err_from_is_err_and}
 use Rattle.s161_base.proofs.Asking.{after_all, file_unread}
