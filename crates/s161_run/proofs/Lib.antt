@@ -1,5 +1,5 @@
 pub mod Asking
-mod Following
+pub mod Following
 mod Failing
 pub mod Making
 mod Shown

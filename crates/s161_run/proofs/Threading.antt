@@ -10,7 +10,7 @@ use Rattle.m161_machine.specs.State.{State}
 use Rattle.m161_cause.specs.declared.cause.Cause.{Cause}
 use Rattle.m161_threads.specs.Runs.{FailsRun, Interleaves, bad_call}
 use Rattle.s161_base.specs.declared.fault.Fault.{Fault}
-use Rattle.s161_base.specs.declared.fault.Fault.TheVariants.{Conf as ConfFault, File, Image, Input, Log, LogImage, LogMachine, Memory, Never, Output, Schedule, Source, Threads, Touches, Watch, Watches, Word}
+use Rattle.s161_base.specs.declared.fault.Fault.TheVariants.{After, Conf as ConfFault, File, Image, Input, Log, LogImage, LogMachine, Memory, Never, Output, Schedule, Source, Threads, Touches, Watch, Watches, Word}
 use Rattle.s161_run.specs.Threads.{IsCause}
 use Rattle.s161_run.specs.helpers.Threads.{FailsBooted, KeepsLast, number_of}
 
@@ -43,6 +43,7 @@ failed_booted P m processors burst (Watches n) number threads memory h = absurd 
 failed_booted P m processors burst (Watch k) number threads memory h = absurd h
 failed_booted P m processors burst (Never word) number threads memory h = absurd h
 failed_booted P m processors burst (Touches word) number threads memory h = absurd h
+failed_booted P m processors burst (After k why) number threads memory h = absurd h
 failed_booted P m processors burst ConfFault number threads memory h = absurd h
 failed_booted P m processors burst (Image e) number threads memory h = absurd h
 failed_booted P m processors burst (Input why) number threads memory h = absurd h

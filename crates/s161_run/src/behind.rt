@@ -114,7 +114,8 @@ pub fn events_behind<'a>(
 
 // Why no events are listed: event k was refused, and so many come first.
 fn fault_of_refusal<'a>(before: usize, k: usize, why: Refusal) -> Fault<'a>
-    ensures { (result ≡ Fault.Memory) ⊎ ((k < before) × (result ≡ fault_of_first k why)) }
+    ensures { ((k < before) × (result ≡ fault_of_first k why))
+        ⊎ ((before ≤ k) × (result ≡ Fault.Memory)) }
 {
     if k < before {
         fault_of_first(k as u64, why)

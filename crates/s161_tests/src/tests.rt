@@ -1,8 +1,9 @@
-//! Tests of the program's commands, of the assembler and of the debugger. `program`, `run`,
+//! Tests of the program's commands, of the assembler and of the debugger. `behind`, `program`, `run`,
 //! `sample`, `faulty`, `going`, `over_files`, `prompt`, `texts`, `traps` and `units` try the commands, over the
 //! streams of `streams`.
 
 mod asm;
+mod behind;
 mod debug;
 mod faulty;
 mod going;

@@ -48,18 +48,18 @@ s 0 ran
 ";
 
 /// A command over the files `image` and `text`, and what it leaves.
-struct Case {
-    words: &'static [&'static str],
-    program: &'static [u32],
-    text: &'static [&'static str],
-    input: &'static str,
-    status: u8,
-    output: &'static [&'static str],
-    errors: &'static str,
+pub(crate) struct Case {
+    pub(crate) words: &'static [&'static str],
+    pub(crate) program: &'static [u32],
+    pub(crate) text: &'static [&'static str],
+    pub(crate) input: &'static str,
+    pub(crate) status: u8,
+    pub(crate) output: &'static [&'static str],
+    pub(crate) errors: &'static str,
 }
 
 /// Runs the cases, and fails the test at the first that leaves something else.
-fn check(
+pub(crate) fn check(
     rt: &(impl Abort + AllocGlobal + Threads + Wait + Sync),
     cases: &[Case],
 ) -> Result<(), Fail> {

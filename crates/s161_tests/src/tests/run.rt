@@ -65,7 +65,7 @@ const HALF_WAY: [&str; 4] = [
 /// A loop that leaves the registers alone: `beq $0, $0, 0x80000200`, `nop`.
 pub(crate) const STAND_STILL: [u32; 2] = [0x1000_ffff, 0x0000_0000];
 
-const STAND_STILL_MACHINE: &str =
+pub(crate) const STAND_STILL_MACHINE: &str =
     "# machine 1048576 1 fa3b050d2482a05e95dc602587fe3a39152519cd77a6cad097fda85189f92d30\n";
 
 /// A byte for the console: `lui $8, 0xbfe0`, `ori $9, $0, BYTE`, `sw $9, 0($8)`.
