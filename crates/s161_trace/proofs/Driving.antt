@@ -1,4 +1,4 @@
-use Rattle.std.proofs.Common.{◌≡◌, ◌∙◌, refl, sym, ap, subst, ℕ, ◌+◌, ◌<◌, ◌≤◌, ◌≢◌, List, [], ◌∷◌, ◌++◌, length, slice_get, Option, None, Some, Ok, false, arith, inl, inr}
+use Rattle.std.proofs.Common.{◌≡◌, ◌∙◌, refl, sym, ap, subst, ℕ, ◌+◌, ◌<◌, ◌≤◌, List, [], ◌∷◌, ◌++◌, length, slice_get, Option, None, Some, Ok, false, arith, inr}
 use Rattle.std.proofs.lemmas.List.{length-append}
 use Rattle.std.specs.Prelude.{if◌then◌else◌}
 use Rattle.m161_cpu.specs.declared.processor.Outcome.{Outcome}
@@ -17,12 +17,12 @@ use Rattle.m161_drive.proofs.Driving.{chooses_append, ended_so}
 use Rattle.m161_machine.proofs.Made.{counted}
 use Rattle.s161_run.specs.declared.events.RunStop.{RunStop}
 use Rattle.s161_run.specs.declared.events.RunStop.TheVariants as run
-use Rattle.s161_run.specs.Behind.{Follows, told}
+use Rattle.s161_run.specs.Behind.{told}
 use Rattle.s161_base.specs.declared.fault.Fault.{Fault}
 use Rattle.s161_trace.specs.declared.lines.Lines.{Lines}
 use Rattle.s161_trace.specs.helpers.Driven.{FailsBehind, FailsInDrive, FailsOnce, PrintsBehind, PrintsDrive, Turn, next_key}
 use Rattle.s161_trace.specs.helpers.Printing.{Prints}
-use Rattle.s161_trace.specs.helpers.Scheduled.{FailsInSchedule, PrintsSchedule}
+use Rattle.s161_trace.specs.helpers.Scheduled.{PrintsSchedule}
 use Rattle.s161_trace.proofs.Printing.{fails_on, prints_none, prints_on}
 
 -- The lines of a driven run.
@@ -132,32 +132,7 @@ module _ (rules : Rules) (most : ℕ) (s : State) (l : Lines) (a : Option (List 
 
 -- Behind events that come first.
 
--- where not all of them were made, no others are
-pub none_follow : (rules : Rules) (most : ℕ) (stop : RunStop) (first : List Entry) (u : State) → stop ≢ run.End → Follows rules most stop first u stop first u
-none_follow rules most run.Off first u other = (refl, refl, refl)
-none_follow rules most (run.Conflict conflict) first u other = (refl, refl, refl)
-none_follow rules most run.End first u other = absurd (other refl)
-none_follow rules most run.Stuck first u other = (refl, refl, refl)
-none_follow rules most (run.Refused k refusal) first u other = (refl, refl, refl)
-
 module _ (rules : Rules) (most : ℕ) (s : State) (l : Lines) (a : Option (List ℕ)) (events : List Event) where
-  pub first_alone : (stop : RunStop) (u : State) (k : Lines) (b : Option (List ℕ)) → stop ≢ run.End → PrintsSchedule s l a events stop u k b →
-      PrintsBehind rules most s l a events stop u k b
-  first_alone stop u k b other h = record {
-    entries = h.entries;
-    goes = record {
-      first_stop = stop;
-      first = h.entries;
-      between = u;
-      makes = h.makes;
-      follows = none_follow rules most stop h.entries u other;
-    };
-    prints = h.prints;
-  }
-
-  pub first_fails : (u : State) (b : Option (List ℕ)) (fault : Fault) → FailsInSchedule s l a events u b fault → FailsBehind rules most s l a events u b fault
-  first_fails u b fault h = record { entries = h.entries; some = inl h.some; fails = h.fails }
-
   module _ (none : l.number ≡ 0) (u : State) (j : Lines) (b : Option (List ℕ)) (h : PrintsSchedule s l a events run.End u j b) where
     pub behind_goes : (driven : Driven) (stop : RunStop) (t : State) (k : Lines) (c : Option (List ℕ)) → PrintsDrive rules most u j b driven t k c →
         stop ≡ told k.number t.conflict driven.stop → PrintsBehind rules most s l a events stop t k c

@@ -371,9 +371,9 @@ module _ (task : TraceTask) (options : Drive) (files : List ℕ → Option (List
     abbrev IsSome : State → List Entry → State → Type 0
     IsSome = GoesSome (rules_of options keys) options.events first
 
-    lists_if : (text : Option (List ℕ)) → ListsFirst task.size file text first conf → ListsIf text first
+    lists_if : (read : Option (List ℕ)) → ListsFirst task.size file read first conf → ListsIf read first
     lists_if None h = h.0
-    lists_if (Some text) h = (h.0, h.1)
+    lists_if (Some bytes) h = (h.0, h.1)
 
     ordered : AreOrdered options files keys first
     ordered = record {
