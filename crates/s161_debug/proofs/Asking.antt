@@ -1,8 +1,9 @@
-use Rattle.std.proofs.Common.{ℕ, List, Option, Result}
+use Rattle.std.proofs.Common.{ℕ, List, Option, Result, inl, inr}
 use Rattle.std.specs.declared.alloc.AllocError.{AllocError}
 use Rattle.std.specs.Prelude.{IfErr}
 use Rattle.std.proofs.lemmas.Result.{IfErr-weaker}
 use Rattle.m161_debug.specs.Breakpoints.{SessionState}
+use Rattle.m161_machine.specs.declared.conf.Conf.{Conf}
 use Rattle.m161_machine.specs.declared.event.Event.{Event}
 use Rattle.m161_server.specs.declared.fault.Fault.{Fault as ServerFault}
 use Rattle.m161_server.specs.declared.fault.Fault.TheVariants as server
@@ -10,31 +11,30 @@ use Rattle.s161_base.proofs.Asking.{IsNoFile, none_by, result_asks}
 use Rattle.s161_base.specs.Asked.{Asks, AsksFor}
 use Rattle.s161_base.specs.Streams.{Streams}
 use Rattle.s161_base.specs.declared.fault.Fault.{Fault}
-use Rattle.s161_base.specs.declared.machines.NamedMachine.{NamedMachine}
 use Rattle.s161_command.specs.declared.task.AskedSize.{AskedSize}
-use Rattle.s161_debug.specs.Debugs.{IsMachineFault}
+use Rattle.s161_run.proofs.Keeping.{first_is_none}
+use Rattle.s161_debug.specs.Debugs.{IsBootFault, IsUnbooted}
 use Rattle.s161_debug.specs.Gdb.{told_as}
 use Rattle.s161_debug.specs.Sessions.{Breaks, IsBehind}
 
 -- The faults that are none of a file: behind it all files were asked for.
 
--- of the machine
-machine_is_none : (size : AskedSize) (file : List ℕ) (named : Option NamedMachine) (fault : Fault) → IsMachineFault size file named fault → IsNoFile fault
-machine_is_none size file named fault h = none_by (IsMachineFault size file named) (λ name why bad. bad) fault h
+-- of the boot
+boot_is_none : (file : List ℕ) (conf : Conf) (fault : Fault) → IsBootFault file conf fault → IsNoFile fault
+boot_is_none file conf fault h = none_by (IsBootFault file conf) (λ name why bad. bad) fault h
 
-pub machine_asks : {A : Type 0} (size : AskedSize) (file : List ℕ) (named : Option NamedMachine) (r : Result A Fault) → IfErr r (IsMachineFault size file named) →
-    (names : List (List ℕ)) (x y : Option (List (List ℕ))) → Asks names x y → AsksFor names r x y
-machine_asks size file named r fails names x y asks =
-    result_asks names x y r asks (IfErr-weaker r (IsMachineFault size file named) IsNoFile (machine_is_none size file named) fails)
+pub unbooted_is_none : (size : AskedSize) (file : List ℕ) (text : Option (List ℕ)) (fault : Fault) → IsUnbooted size file text fault → IsNoFile fault
+unbooted_is_none size file text fault (inl h) = first_is_none size file text fault h
+unbooted_is_none size file text fault (inr h) = boot_is_none file h.1 fault h.3
 
 -- of a session
 pub behind_is_none : (fault : Fault) (part : List ℕ) → IsBehind fault part → IsNoFile fault
 behind_is_none fault part h = none_by (λ f. IsBehind f part) (λ name why bad. bad) fault h
 
-pub session_asks : {A : Type 0} (s : SessionState) (events : List Event) (x : Streams) (r : Result A Fault) → IfErr r (Breaks s events x) →
+pub session_asks : {A : Type 0} (s : SessionState) (events : List Event) (x : Streams) (errors told : Option (List ℕ)) (r : Result A Fault) → IfErr r (Breaks s events x errors told) →
     (names : List (List ℕ)) (a b : Option (List (List ℕ))) → Asks names a b → AsksFor names r a b
-session_asks s events x r fails names a b asks =
-    result_asks names a b r asks (IfErr-weaker r (Breaks s events x) IsNoFile (λ fault h. behind_is_none fault h.part h.is_behind) fails)
+session_asks s events x errors told r fails names a b asks =
+    result_asks names a b r asks (IfErr-weaker r (Breaks s events x errors told) IsNoFile (λ fault h. behind_is_none fault h.part h.is_behind) fails)
 
 -- of a session of GDB
 pub told_is_none : (why : ServerFault AllocError) → IsNoFile (told_as why)

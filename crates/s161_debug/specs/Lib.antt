@@ -3,6 +3,7 @@ pub mod Debugs
 pub mod Gdb
 pub mod Helps
 pub mod Lines
+pub mod Notes
 pub mod Sessions
 pub mod Traces
 pub mod helpers

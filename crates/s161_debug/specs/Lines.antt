@@ -179,16 +179,16 @@ Does Trace line s events t left printed =
 Does Command line s events t left printed = DoesCommand line s events t left printed
 
 -- a line, as what it counts as, is done over the remaining events; these are the session and the
--- events after it, and the text grows to this one
+-- events after it, and what is printed
 abbrev pub DoesLine :
-    List ℕ → SessionState → List Event → SessionState → List Event → List ℕ → List ℕ → Type 0
-DoesLine line s events t left before after =
-    (printed : List ℕ) × Does (asked_by (spaced line)) (spaced line) s events t left printed
-    × (after ≡ before ++ printed)
+    List ℕ → SessionState → List Event → SessionState → List Event → List ℕ → Type 0
+DoesLine line s events t left answer =
+    Does (asked_by (spaced line)) (spaced line) s events t left answer
 
--- these lines are done, one after the other, and the text grows to this one
-abbrev pub DoesLines : List (List ℕ) → SessionState → List Event → List ℕ → List ℕ → Type 0
-DoesLines [] s events before after = after ≡ before
-DoesLines (line ∷ lines) s events before after =
-    (t : SessionState) × (left : List Event) × (text : List ℕ)
-    × DoesLine line s events t left before text × DoesLines lines t left text after
+-- these lines are done, one after the other, and these are the texts that are printed
+abbrev pub DoesLines : List (List ℕ) → SessionState → List Event → List (List ℕ) → Type 0
+DoesLines [] s events answers = answers ≡ []
+DoesLines (line ∷ lines) s events answers =
+    (t : SessionState) × (left : List Event) × (answer : List ℕ) × (others : List (List ℕ))
+    × (answers ≡ answer ∷ others) × DoesLine line s events t left answer
+    × DoesLines lines t left others

@@ -1,5 +1,4 @@
 -- Definitions that only contracts of private functions, or proofs, use.
 pub mod Blanks
-pub mod Debugs
 pub mod Lines
 pub mod Sessions

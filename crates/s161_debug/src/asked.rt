@@ -53,8 +53,8 @@ fn is_silent(line: &str) -> bool
     line.starts_with('#')
 }
 
-// The part of a line before its first space.
-fn first_word(line: &str) -> &str
+/// The part of a line before its first space.
+pub(crate) fn first_word(line: &str) -> &str
     ensures { result.now ≡ first_word line.now }
 {
     match cut_at_space(line) {

@@ -19,7 +19,8 @@ use std::io::{Read, Write};
 
 /// Reads the image and then the file of the events, or of the keys of the driven run that chooses
 /// them, boots the image, and does the lines of the input, one after the other, until it ends or a
-/// line is `quit`. What a line prints is written and flushed before a byte of the next one is read.
+/// line is `quit`. What a line prints is written and flushed before a byte of the next one is read; and
+/// where that is an error that is about what was typed, so is a note on standard error.
 ///
 /// The events are those of a log, where the file's first line that is no comment begins with
 /// `m161 `; else of a schedule. The machine is the one that is given; what isn't given of it is as
@@ -30,27 +31,28 @@ use std::io::{Read, Write};
 /// The first fault. What was written stays.
 // For LLVM: a stack frame of its own.
 #[inline(never)]
-pub fn debug<'a, F: FileSource, I: Read, O: Write>(
+pub fn debug<'a, F: FileSource, I: Read, O: Write, E: Write>(
     alloc: Global,
     files: &mut F,
     input: &mut I,
     output: &mut O,
+    errors: &mut E,
     task: DebugTask<'a>,
 ) -> Result<(), Fault<'a>>
     requires { HasSourceLimits task.source }
     ensures ok { OnOk result (IsDebug task.entry (F.known files.old)
         (image_file (F.known files.old) task.entry.image.now)
         (streams (I.remaining input.old) (I.remaining input.new) (O.contents output.old)
-        (O.contents output.new))) }
+        (O.contents output.new)) (E.contents errors.old) (E.contents errors.new)) }
     ensures fault { IfErr result (IsDebugFault task.entry (F.known files.old)
         (image_file (F.known files.old) task.entry.image.now)
         (streams (I.remaining input.old) (I.remaining input.new) (O.contents output.old)
-        (O.contents output.new))) }
+        (O.contents output.new)) (E.contents errors.old) (E.contents errors.new)) }
     ensures asks { AsksFor (debug_files task.entry) result (F.asked files.old)
         (F.asked files.new) }
 {
     let opened = open(alloc, files, task)?;
     let session = Debugged::new(opened.machine, opened.style, opened.again);
     let left = Left::new(opened.events);
-    serve(alloc, session, left, input, output)
+    serve(alloc, session, left, input, output, errors)
 }

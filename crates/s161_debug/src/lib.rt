@@ -13,8 +13,8 @@
 //! ```
 //!
 //! K and N are decimal, without leading zeros, and below 2^64. Spaces and tabs count as one space between
-//! words, and as none around them. An error is printed as `? NAME`. The lines and their texts are this
-//! project's own.
+//! words, and as none around them. An error is printed as `? NAME`; where it is about what was typed, a
+//! note on standard error says what the command takes. The lines and their texts are this project's own.
 //!
 //! And the command that serves GDB on a run over the same events, by m161_server's sessions.
 #![tactic(auto)]
@@ -30,6 +30,7 @@ mod help;
 mod last;
 mod left;
 mod line;
+mod notes;
 mod opening;
 mod serving;
 

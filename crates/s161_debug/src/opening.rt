@@ -1,33 +1,31 @@
 //! The machine and the events of a session.
 
-ghost use Rattle.std.specs.Prelude.{◌≡◌, ◌⊎◌, [], ◌∷◌, IfErr, IfOk, None};
+ghost use Rattle.std.specs.Prelude.{◌≡◌, ◌⊎◌, [], ◌∷◌, IfErr, IfOk, None, option_map};
+ghost use Rattle.m161_machine.specs.declared.conf.Conf.{Conf as MachineConf};
 ghost use Rattle.m161_order.specs.Order.{order_fault};
 ghost use Rattle.s161_command.specs.Commands.{HasSourceLimits};
-ghost use Rattle.s161_base.specs.Asked.{AsksFor, option_files};
+ghost use Rattle.s161_base.specs.Asked.{AsksFor};
 ghost use Rattle.s161_base.specs.Faults.{BootsTo};
-ghost use Rattle.s161_base.specs.Listed.{IsListFault, Lists};
-ghost use Rattle.s161_base.specs.Machines.{asked_conf, machine_fault};
+ghost use Rattle.s161_base.specs.Listed.{ListsFirst};
 ghost use Rattle.s161_base.specs.Samples.{image_file};
 ghost use Rattle.s161_command.specs.declared.task.Source.TheVariants as sources;
+ghost use Rattle.s161_run.specs.Behind.{TakesBehind};
 ghost use Rattle.s161_run.specs.Driven.{rules_of};
-ghost use Rattle.s161_run.specs.Schedules.{Chose};
-ghost use Rattle.s161_debug.specs.Debugs.{debug_files, source_files, IsEarlyFault, IsMachineFault, IsOpened, IsSourceFault, IsUnopened, Opens};
+ghost use Rattle.s161_debug.specs.Debugs.{debug_files, source_files, IsBootFault, IsEarlyFault, IsOpened, IsSourceFault, IsUnbooted, IsUnopened, Opens};
 ghost use Rattle.s161_debug.specs.Gdb.{gdb_files, OpensRun};
-ghost use Rattle.s161_debug.specs.helpers.Debugs.{IsBootFault};
 
 use m161::Machine;
 use m161_dis::Style;
-use m161_machine::{Conf, Event};
+use m161_machine::{Conf, Event, Events};
 use s161_base::fault::Fault;
 use s161_base::files::FileSource;
-use s161_base::input::read_text;
-use s161_base::listed::list_text;
-use s161_base::machines::{NamedMachine, asked_conf, machine_fault};
+use s161_base::input::{read_text, read_text_if};
+use s161_base::listed::plan_first;
 use s161_base::naming::style_of;
 use s161_base::sample::read_image;
 use s161_command::{AskedSize, DebugTask, Drive, GdbTask, Source};
+use s161_run::behind::session_behind;
 use s161_run::policy::read_keys;
-use s161_run::schedule::chosen_events;
 use std::alloc::Global;
 
 /// The machine of a session, its events, and how it shows registers and addresses, twice.
@@ -46,16 +44,15 @@ pub(crate) struct Prepared {
     pub(crate) events: Vec<Event>,
 }
 
-// The events of a text, one by one, and what it says of their machine, if it says something.
+// A machine, and the events of the text that names it.
 #[derive(Drop)]
-struct Listed {
-    events: Vec<Event>,
-    named: Option<NamedMachine>,
+struct Booted {
+    machine: Machine,
+    events: Events,
 }
 
-/// Reads the image and then the file of the events, or of the keys of the driven run that chooses
-/// them; boots the image; makes the driven run on a copy of the state; and reads the image's symbols,
-/// twice.
+/// Reads the image and then the file of the events, or those of the order that chooses them; boots the
+/// image; makes the events of the order on a copy of the state; and reads the image's symbols, twice.
 ///
 /// # Errors
 /// The first fault.
@@ -148,11 +145,15 @@ fn open_file<'a, F: FileSource>(
         (F.asked files.new) }
 {
     let text = read_text(alloc, files, name)?;
-    let listed = list_events(alloc, text.as_str())?;
-    open_listed(alloc, image, size, listed)
+    let booted = boot_for(alloc, image, size, Some(text.as_str()))?;
+    let events = booted.events.to_vec(alloc)?;
+    Ok(Prepared {
+        machine: booted.machine,
+        events,
+    })
 }
 
-// Boots an image, with the events of a driven run.
+// Boots an image, with the events of an order, and of the file of `--after` before them.
 fn open_driven<'a, F: FileSource>(
     alloc: Global,
     files: &mut F,
@@ -165,53 +166,54 @@ fn open_driven<'a, F: FileSource>(
         (F.known files.old) image.now opened.machine opened.events.items) }
     ensures fault { IfErr result (λ fault. (fault ≡ Fault.Memory)
         ⊎ IsSourceFault (sources.Driven drive.entry) size (F.known files.old) image.now fault) }
-    ensures asks { AsksFor (option_files drive.entry.keys) result (F.asked files.old)
+    ensures asks { AsksFor (source_files (sources.Driven drive.entry)) result (F.asked files.old)
         (F.asked files.new) }
 {
+    let text = read_text_if(alloc, files, drive.after)?;
     let keys = read_keys(alloc, files, drive.keys)?;
-    open_chosen(alloc, image, size, drive, &keys)
+    let booted = boot_for(alloc, image, size, text.as_deref())?;
+    choose(alloc, booted, drive, &keys)
 }
 
-// Boots the machine that is asked for, if a log names no other.
-fn open_listed<'a>(
+// Boots an image, in the machine that is asked for over a text's events, if there is a text.
+fn boot_for<'a>(
     alloc: Global,
     image: &[u8],
     size: AskedSize,
-    listed: Listed,
-) -> Result<Prepared, Fault<'a>>
-    ensures ok { IfOk result (λ opened. (machine_fault size image.now listed.named ≡ None)
-        × BootsTo image.now (asked_conf size listed.named) opened.machine
-        × (opened.events.items ≡ listed.events.items)) }
-    ensures fault { IfErr result (IsMachineFault size image.now listed.named) }
+    text: Option<&str>,
+) -> Result<Booted, Fault<'a>>
+    ensures ok { IfOk result (λ booted. (conf : MachineConf)
+        × ListsFirst size image.now (option_map (λ t. t.now) text.entry) booted.events conf
+        × BootsTo image.now conf booted.machine) }
+    ensures fault { IfErr result (IsUnbooted size image.now (option_map (λ t. t.now) text.entry)) }
 {
-    if let Some(fault) = machine_fault(size, image, listed.named) {
-        return Err(fault);
-    }
-    let machine = boot(alloc, image, asked_conf(size, listed.named))?;
-    Ok(Prepared {
+    let planned = plan_first(alloc, size, image, text)?;
+    let machine = boot(alloc, image, planned.conf)?;
+    Ok(Booted {
         machine,
-        events: listed.events,
+        events: planned.events,
     })
 }
 
-// Boots the machine that is asked for, and makes the driven run on a copy of its state.
-fn open_chosen<'a>(
+// The events that come first, and those that an order chooses behind them, on a copy of the state.
+fn choose<'a>(
     alloc: Global,
-    image: &[u8],
-    size: AskedSize,
+    booted: Booted,
     drive: Drive<'_>,
     keys: &[u8],
 ) -> Result<Prepared, Fault<'a>>
     requires { order_fault drive.order ≡ None }
-    ensures ok { IfOk result (λ opened. BootsTo image.now (asked_conf size None) opened.machine
-        × Chose (rules_of drive.entry keys.now) drive.entry.events opened.machine.state
-        opened.events.items) }
-    ensures fault { IfErr result (IsMachineFault size image.now None) }
+    ensures ok { IfOk result (λ opened. (opened.machine ≡ booted.machine)
+        × TakesBehind (rules_of drive.entry keys.now) drive.entry.events booted.machine.state
+        booted.events opened.events.items) }
+    ensures fault { IfErr result (λ fault. fault ≡ Fault.Memory) }
 {
-    let machine = boot(alloc, image, asked_conf(size, None))?;
-    let mut core = machine.core().copy(alloc)?;
-    let events = chosen_events(alloc, &mut core, drive, keys)?;
-    Ok(Prepared { machine, events })
+    let mut core = booted.machine.core().copy(alloc)?;
+    let events = session_behind(alloc, &mut core, &booted.events, drive, keys)?;
+    Ok(Prepared {
+        machine: booted.machine,
+        events,
+    })
 }
 
 // Boots an image.
@@ -221,17 +223,4 @@ fn boot<'a>(alloc: Global, image: &[u8], conf: Conf) -> Result<Machine, Fault<'a
 {
     let machine = Machine::boot(alloc, image, conf)?;
     Ok(machine)
-}
-
-// The events of a text, which is a log or a schedule, and what it says of their machine.
-fn list_events<'a>(alloc: Global, text: &str) -> Result<Listed, Fault<'a>>
-    ensures ok { IfOk result (λ listed. Lists text.now listed.events.items listed.named) }
-    ensures fault { IfErr result (IsListFault text.now) }
-{
-    let listed = list_text(alloc, text)?;
-    let events = listed.events.to_vec(alloc)?;
-    Ok(Listed {
-        events,
-        named: listed.named,
-    })
 }

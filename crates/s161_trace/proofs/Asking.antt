@@ -11,7 +11,7 @@ use Rattle.s161_base.specs.declared.fault.Fault.TheVariants.{Memory, Output}
 use Rattle.s161_command.specs.declared.drive.Drive.{Drive}
 use Rattle.s161_command.specs.declared.task.TraceTask.{TraceTask}
 use Rattle.s161_run.specs.declared.events.RunStop.{RunStop}
-use Rattle.s161_trace.specs.Traces.{keys_files}
+use Rattle.s161_trace.specs.Traces.{drive_files}
 use Rattle.s161_trace.specs.declared.filter.LineFilter.{LineFilter}
 use Rattle.s161_trace.specs.helpers.Booted.{FailsRun, IsUnasked}
 use Rattle.s161_trace.specs.helpers.Printing.{FailsToPrintAll}
@@ -50,8 +50,8 @@ module _ (task : TraceTask) (conf : Conf) (file : List ℕ) (IsSome : State → 
         (λ fault h. none_before fault x y (run_is_none fault h)) fails
 
 -- a task without an order has no other file than the image's
-pub without_keys : (task : TraceTask) (drive : Option Drive) (r : Result RunStop Fault) (x y : Option (List (List ℕ))) → drive ≡ None →
-    AsksFor (image_files task.image.now) r x y → AsksFor (image_files task.image.now ++ keys_files drive) r x y
-without_keys task drive r x y is asks =
+pub without_drive : (task : TraceTask) (drive : Option Drive) (r : Result RunStop Fault) (x y : Option (List (List ℕ))) → drive ≡ None →
+    AsksFor (image_files task.image.now) r x y → AsksFor (image_files task.image.now ++ drive_files drive) r x y
+without_drive task drive r x y is asks =
     let image = image_files task.image.now in
-    subst (λ d. AsksFor (image ++ keys_files d) r x y) (sym is) (subst (λ names. AsksFor names r x y) (sym (append-nil image)) asks)
+    subst (λ d. AsksFor (image ++ drive_files d) r x y) (sym is) (subst (λ names. AsksFor names r x y) (sym (append-nil image)) asks)

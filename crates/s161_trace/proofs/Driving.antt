@@ -1,4 +1,4 @@
-use Rattle.std.proofs.Common.{◌≡◌, ◌∙◌, refl, sym, ap, subst, ℕ, ◌+◌, ◌<◌, ◌≤◌, List, [], ◌∷◌, ◌++◌, length, slice_get, Option, None, Some, Ok, false, arith}
+use Rattle.std.proofs.Common.{◌≡◌, ◌∙◌, refl, sym, ap, subst, ℕ, ◌+◌, ◌<◌, ◌≤◌, List, [], ◌∷◌, ◌++◌, length, slice_get, Option, None, Some, Ok, false, arith, inr}
 use Rattle.std.proofs.lemmas.List.{length-append}
 use Rattle.std.specs.Prelude.{if◌then◌else◌}
 use Rattle.m161_cpu.specs.declared.processor.Outcome.{Outcome}
@@ -7,19 +7,33 @@ use Rattle.m161_machine.specs.declared.event.Event.{Event}
 use Rattle.m161_machine.specs.State.{State, next}
 use Rattle.m161_machine.specs.History.{entry}
 use Rattle.m161_drive.specs.declared.cursor.Cursor.{Cursor}
+use Rattle.m161_drive.specs.declared.run.Driven.{Driven}
 use Rattle.m161_drive.specs.declared.run.Stop.{Stop}
 use Rattle.m161_drive.specs.declared.run.Stop.TheVariants.{Off, End, Stuck, Refused}
 use Rattle.m161_drive.specs.Choice.{chosen, cursor_at, taken}
 use Rattle.m161_drive.specs.Drive.{Chooses, Goes, Rests, Stops}
 use Rattle.m161_drive.specs.Policy.{Rules}
 use Rattle.m161_drive.proofs.Driving.{chooses_append, ended_so}
+use Rattle.m161_machine.proofs.Made.{counted}
+use Rattle.s161_run.specs.declared.events.RunStop.{RunStop}
+use Rattle.s161_run.specs.declared.events.RunStop.TheVariants as run
+use Rattle.s161_run.specs.Behind.{told}
 use Rattle.s161_base.specs.declared.fault.Fault.{Fault}
 use Rattle.s161_trace.specs.declared.lines.Lines.{Lines}
-use Rattle.s161_trace.specs.helpers.Driven.{FailsInDrive, FailsOnce, PrintsDrive, Turn, next_key}
+use Rattle.s161_trace.specs.helpers.Driven.{FailsBehind, FailsInDrive, FailsOnce, PrintsBehind, PrintsDrive, Turn, next_key}
 use Rattle.s161_trace.specs.helpers.Printing.{Prints}
+use Rattle.s161_trace.specs.helpers.Scheduled.{PrintsSchedule}
 use Rattle.s161_trace.proofs.Printing.{fails_on, prints_none, prints_on}
 
 -- The lines of a driven run.
+
+-- events have no greater numbers than so many were made
+pub number_few : (l k : Lines) (a b : Option (List ℕ)) (es : List Entry) (s t : State) → l.tracer ≡ s → Prints l a es t k b → l.number ≤ s.made → k.number ≤ t.made
+number_few l k a b es s t step prints few =
+    let count = counted es l.tracer t prints.leads in
+    let here = ap (λ (u : State). u.made) step in
+    let number = prints.number_is in
+    omega (arith, count, here, number, few)
 
 -- an event that was chosen, and is made
 pub goes_so : (rules : Rules) (c b d : Cursor) (s t v w : State) (e : Event) (o : Outcome) → v ≡ s → w ≡ t → s.board.off ≡ false →
@@ -115,3 +129,33 @@ module _ (rules : Rules) (most : ℕ) (s : State) (l : Lines) (a : Option (List 
   at_last all =
       subst (λ n. PrintsDrive rules most s l a (record { made = n; stop = if t.board.off then Off else End }) t k b) all
       (stops_here (if t.board.off then Off else End) (omega (arith, all)) (ended_so rules most made c t t.board.off refl all))
+
+-- Behind events that come first.
+
+module _ (rules : Rules) (most : ℕ) (s : State) (l : Lines) (a : Option (List ℕ)) (events : List Event) where
+  module _ (none : l.number ≡ 0) (u : State) (j : Lines) (b : Option (List ℕ)) (h : PrintsSchedule s l a events run.End u j b) where
+    pub behind_goes : (driven : Driven) (stop : RunStop) (t : State) (k : Lines) (c : Option (List ℕ)) → PrintsDrive rules most u j b driven t k c →
+        stop ≡ told k.number t.conflict driven.stop → PrintsBehind rules most s l a events stop t k c
+    behind_goes driven stop t k c x is =
+        let first = h.prints.number_is in
+        let more = x.prints.number_is in
+        let made = x.drives.made_is in
+        let number : k.number ≡ length h.entries + driven.made = omega (arith, none, first, more, made) in
+        record {
+          entries = h.entries ++ x.entries;
+          goes = record {
+            first_stop = run.End;
+            first = h.entries;
+            between = u;
+            makes = h.makes;
+            follows = (driven, x.entries, x.drives, refl, is ∙ ap (λ n. told n t.conflict driven.stop) number);
+          };
+          prints = prints_on l j a b c h.entries x.entries u h.prints k t x.prints;
+        }
+
+    pub behind_fails : (t : State) (c : Option (List ℕ)) (fault : Fault) → FailsInDrive rules most u j b t c fault → FailsBehind rules most s l a events t c fault
+    behind_fails t c fault x = record {
+      entries = h.entries ++ x.entries;
+      some = inr (h.entries, x.entries, u, h.makes, x.some, refl);
+      fails = fails_on l j a b c h.entries x.entries u h.prints t fault x.fails;
+    }

@@ -10,31 +10,28 @@ use Rattle.m161_machine.specs.declared.conf.Conf.{Conf}
 use Rattle.m161_machine.specs.History.{Boots, BootsState, History, IsBootState, boot_fault}
 use Rattle.m161_machine.specs.State.{State}
 use Rattle.m161_text.specs.Lines.{text_of, with_line_end}
-use Rattle.s161_base.proofs.Failing.{state_failed}
 use Rattle.s161_base.specs.Faults.{BootsIn, fault_of_boot}
 use Rattle.s161_base.specs.Known.{OfText}
-use Rattle.s161_base.specs.Listed.{ListsFor}
-use Rattle.s161_base.specs.Machines.{conf_asked}
-use Rattle.s161_run.proofs.Listing.{unbooted}
+use Rattle.s161_base.specs.Listed.{ListsFirst, ListsFor}
+use Rattle.s161_run.proofs.Listing.{order_unbooted, unbooted}
 use Rattle.s161_base.specs.Streams.{AppendsSome, streams}
 use Rattle.s161_base.specs.declared.fault.Fault.{Fault}
 use Rattle.s161_base.specs.declared.fault.Fault.TheVariants.{Memory}
 use Rattle.s161_command.specs.declared.drive.Drive.{Drive}
 use Rattle.s161_command.specs.declared.task.TraceTask.{TraceTask}
-use Rattle.m161_drive.specs.declared.run.Driven.{Driven}
 use Rattle.m161_drive.specs.Policy.{Rules}
-use Rattle.s161_run.specs.Driven.{AreKeys, IsDrivenFault, rules_of, stop_of}
+use Rattle.s161_run.specs.Driven.{AreInputs, IsOrderFault, rules_of}
 use Rattle.s161_run.specs.declared.events.RunStop.{RunStop}
 use Rattle.s161_run.specs.Runs.{IsFaultOf, stop_line}
 use Rattle.s161_trace.specs.declared.lines.Lines.{Lines}
 use Rattle.s161_trace.specs.declared.filter.LineFilter.{LineFilter}
 use Rattle.s161_trace.specs.declared.shared.SharedWords.{SharedWords}
 use Rattle.s161_trace.specs.Shared.{is_shared}
-use Rattle.s161_trace.specs.Traces.{Begins, BootsFor, HasInputs, IsAskedWord, IsConfOf, IsEarlyFault, IsTraceFault, IsTraced, IsUnread, IsWhole, ListsIn, Runs, driven_of, lines_text, run_of, shared_words, touches_in, trace_text}
+use Rattle.s161_trace.specs.Traces.{AreOrdered, Begins, BootsFor, GoesSome, HasInputs, IsAskedWord, IsConfOf, IsEarlyFault, IsTraceFault, IsTraced, IsUnread, IsWhole, ListsIf, ListsIn, MakesSome, Runs, lines_text, run_of, shared_words, touches_in, trace_text}
 use Rattle.s161_trace.specs.helpers.Booted.{FailsRun, IsFilter, IsSharedIf, IsUnasked, IsWholeFilter, PrintsRun, with_shared}
-use Rattle.s161_trace.specs.helpers.Driven.{DrivesAll, DrivesSome, PrintsDrive}
+use Rattle.s161_trace.specs.helpers.Driven.{GoesAll, PrintsBehind}
 use Rattle.s161_trace.specs.helpers.Printing.{FailsToPrint, FailsToPrintAll, FailsToPut, FindsShared, IsNew, Prints, PrintsAll, lines_from, run_text, filter_of}
-use Rattle.s161_trace.specs.helpers.Scheduled.{MakesAll, MakesSome}
+use Rattle.s161_trace.specs.helpers.Scheduled.{MakesAll}
 use Rattle.s161_trace.specs.helpers.Marks.{is_marked, marks_after, no_marks}
 use Rattle.s161_trace.proofs.Printing.{puts_some}
 use Rattle.s161_trace.proofs.Sharing.{marks_tell}
@@ -102,13 +99,13 @@ finds_so w noted s l fresh IsAll entries stop t a b k words from count from_is c
       ∙ (λ i. marks_after (none i) (touches_in (from_is i) (count_is i) 0 s entries));
 }
 
--- the same of a driven run
-pub drive_finds : (w : LineFilter) (noted : SharedWords) (s u : State) (l : Lines) (fresh : IsNew w noted s l) (rules : Rules) (most : ℕ) (driven : Driven) (t : State)
-    (a b : Option (List ℕ)) (k : Lines) (words from count : ℕ) → w.from ≡ from → w.count ≡ count → noted.marks.items ≡ no_marks words →
-    PrintsDrive rules most s l a driven t k b → s ≡ u → FindsShared words from count u (DrivesAll rules most) k.noted
-drive_finds w noted s u l fresh rules most driven t a b k words from count from_is count_is none h same =
-    subst (λ v. FindsShared words from count v (DrivesAll rules most) k.noted) same
-    (finds_so w noted s l fresh (DrivesAll rules most) h.entries (stop_of driven t) t a b k words from count from_is count_is none h.prints (driven, h.drives, refl))
+-- the same of a run by an order
+pub behind_finds : (w : LineFilter) (noted : SharedWords) (s u : State) (l : Lines) (fresh : IsNew w noted s l) (rules : Rules) (most : ℕ) (first : List Event)
+    (stop : RunStop) (t : State) (a b : Option (List ℕ)) (k : Lines) (words from count : ℕ) → w.from ≡ from → w.count ≡ count → noted.marks.items ≡ no_marks words →
+    PrintsBehind rules most s l a first stop t k b → s ≡ u → FindsShared words from count u (GoesAll rules most first) k.noted
+behind_finds w noted s u l fresh rules most first stop t a b k words from count from_is count_is none h same =
+    subst (λ v. FindsShared words from count v (GoesAll rules most first) k.noted) same
+    (finds_so w noted s l fresh (GoesAll rules most first) h.entries stop t a b k words from count from_is count_is none h.prints h.goes)
 
 -- a call that ends with this fault
 pub ends_so : (P : Fault → Type 0) (r : Result RunStop Fault) (fault : Fault) → r ≡ Err fault → P fault → IfErr r P
@@ -204,9 +201,9 @@ module _ (task : TraceTask) (ram : ℕ) (file : List ℕ) (s : State) (IsAll : S
     shown_whole stop = ap (λ text. text ++ with_line_end (stop_line stop)) shown
 
 -- a want of memory can always be
-no_memory : (drive : Option Drive) (task : TraceTask) (known input : Option (List ℕ)) → IsEarlyFault drive task known input Memory
-no_memory None task known input = tt
-no_memory (Some options) task known input = tt
+no_memory : (drive : Option Drive) (task : TraceTask) (files : List ℕ → Option (List ℕ)) (known input : Option (List ℕ)) → IsEarlyFault drive task files known input Memory
+no_memory None task files known input = tt
+no_memory (Some options) task files known input = tt
 
 module _ (task : TraceTask) (drive : Option Drive) (drive_is : task.drive ≡ drive) (files : List ℕ → Option (List ℕ))
     (known input left a c : Option (List ℕ)) (unread : IsUnread drive (streams input left a c)) where
@@ -214,21 +211,21 @@ module _ (task : TraceTask) (drive : Option Drive) (drive_is : task.drive ≡ dr
   is_unread = subst (λ d. IsUnread d (streams input left a c)) (sym drive_is) unread
 
   -- before the run
-  early : (fault : Fault) → IsEarlyFault drive task known input fault → c ≡ a → IsTraceFault task files known (streams input left a c) fault
+  early : (fault : Fault) → IsEarlyFault drive task files known input fault → c ≡ a → IsTraceFault task files known (streams input left a c) fault
   early fault h same = record {
     is_unread = is_unread;
-    why = inl (inl (subst (λ d. IsEarlyFault d task known input fault) (sym drive_is) h), same);
+    why = inl (inl (subst (λ d. IsEarlyFault d task files known input fault) (sym drive_is) h), same);
   }
 
-  module _ (file : List ℕ) (is_file : IfSome known (λ bytes. file ≡ bytes)) (conf : Conf) (is_conf : IsConfOf drive task.size file input conf)
+  module _ (file : List ℕ) (is_file : IfSome known (λ bytes. file ≡ bytes)) (conf : Conf) (is_conf : IsConfOf drive task.size files file input conf)
       (IsAll : State → List Entry → RunStop → State → Type 0)
       (runs : (s t : State) (entries : List Entry) (stop : RunStop) → IsAll s entries stop t → Runs drive files input s entries stop t) where
-    abbrev boots_so : (s : State) → BootsIn file conf s → BootsFor task known input s
+    abbrev boots_so : (s : State) → BootsIn file conf s → BootsFor task files known input s
     boots_so s h = record {
       file = file;
       is_file = is_file;
       conf = conf;
-      is_conf = subst (λ d. IsConfOf d task.size file input conf) (sym drive_is) is_conf;
+      is_conf = subst (λ d. IsConfOf d task.size files file input conf) (sym drive_is) is_conf;
       boots = h;
     }
 
@@ -260,7 +257,7 @@ module _ (task : TraceTask) (drive : Option Drive) (drive_is : task.drive ≡ dr
     module _ (IsSome : State → List Entry → State → Type 0)
         (begins : (s t : State) (entries : List Entry) → IsSome s entries t → Begins drive files input s entries t)
         (unbooted : (e : BootError) → BootsState file conf (boot_fault file conf) (Err e) →
-        IsEarlyFault drive task known input (fault_of_boot e))
+        IsEarlyFault drive task files known input (fault_of_boot e))
         (has_inputs : HasInputs drive files input) where
       some_written : (w : LineFilter) (s t : State) (is : IsWholeFilter task conf.ram file s IsAll w) (entries : List Entry) →
           (IsSome s entries t × AppendsSome a c (text_of (lines_from w 0 s entries)))
@@ -279,7 +276,7 @@ module _ (task : TraceTask) (drive : Option Drive) (drive_is : task.drive ≡ dr
 
       in_run : (w : LineFilter) (s t : State) → BootsIn file conf s → IsWholeFilter task conf.ram file s IsAll w → (fault : Fault) →
           FailsToPrintAll w s IsSome IsAll t a c fault → IsTraceFault task files known (streams input left a c) fault
-      in_run w s t boots is fault (inl h) = early fault (subst (IsEarlyFault drive task known input) (sym h.0) (no_memory drive task known input)) h.1
+      in_run w s t boots is fault (inl h) = early fault (subst (IsEarlyFault drive task files known input) (sym h.0) (no_memory drive task files known input)) h.1
       in_run w s t boots is fault (inr h) = record {
         is_unread = is_unread;
         why = inr (record {
@@ -299,7 +296,7 @@ module _ (task : TraceTask) (drive : Option Drive) (drive_is : task.drive ≡ dr
       -- without a word
       no_word : (s : State) → BootsIn file conf s → (fault : Fault) → IsUnasked task conf.ram file fault → c ≡ a →
           IsTraceFault task files known (streams input left a c) fault
-      no_word s boots fault (inl h) same = early fault (subst (IsEarlyFault drive task known input) (sym h) (no_memory drive task known input)) same
+      no_word s boots fault (inl h) same = early fault (subst (IsEarlyFault drive task files known input) (sym h) (no_memory drive task files known input)) same
       no_word s boots fault (inr h) same = record {
         is_unread = is_unread;
         why = inl (
@@ -318,13 +315,13 @@ module _ (task : TraceTask) (drive : Option Drive) (drive_is : task.drive ≡ dr
 
       task_failed : (fault : Fault) → FailsRun task conf file IsSome IsAll a c fault → IsTraceFault task files known (streams input left a c) fault
       task_failed fault (inl h) =
-          early fault (subst (IsEarlyFault drive task known input) (sym h.fault_is) (unbooted h.error h.answer)) h.same
+          early fault (subst (IsEarlyFault drive task files known input) (sym h.fault_is) (unbooted h.error h.answer)) h.same
       task_failed fault (inr (inl h)) = no_word h.booted h.boots fault h.is_unasked h.same
       task_failed fault (inr (inr h)) = in_run h.filter h.booted h.state h.boots h.is_filter fault h.fails
 
 -- by a schedule
 module _ (task : TraceTask) (files : List ℕ → Option (List ℕ)) (known input left : Option (List ℕ)) (none : task.drive ≡ None) where
-  pub schedule_early : (a : Option (List ℕ)) (fault : Fault) → IsEarlyFault None task known input fault →
+  pub schedule_early : (a : Option (List ℕ)) (fault : Fault) → IsEarlyFault None task files known input fault →
       IsTraceFault task files known (streams input left a a) fault
   schedule_early a fault h = early task None none files known input left a a tt fault h refl
 
@@ -334,14 +331,14 @@ module _ (task : TraceTask) (files : List ℕ → Option (List ℕ)) (known inpu
     lists : ListsIn input listed
     lists = (is.0, is.1, (is.2.0, (is.2.1.0, is.2.1.1)))
 
-    is_conf_none : IsConfOf None task.size file input conf
+    is_conf_none : IsConfOf None task.size files file input conf
     is_conf_none = (is.0, is.1, (is.2.0, (listed, is.2.1)))
 
     runs_none : (s t : State) (entries : List Entry) (stop : RunStop) → MakesAll listed s entries stop t → Runs None files input s entries stop t
     runs_none s t entries stop h = record { listed = listed; lists = lists; makes = h }
 
     begins_none : (s t : State) (entries : List Entry) → MakesSome listed s entries t → Begins None files input s entries t
-    begins_none s t entries h = record { listed = listed; lists = lists; are_first = h.0; leads = h.1 }
+    begins_none s t entries h = record { listed = listed; lists = lists; makes = h }
 
     unbooted_none : (e : BootError) → BootsState file conf (boot_fault file conf) (Err e) →
         IsFaultOf (run_of task) known input (fault_of_boot e)
@@ -359,45 +356,60 @@ module _ (task : TraceTask) (files : List ℕ → Option (List ℕ)) (known inpu
         (task_failed task None none files known input left a c tt file is_file conf is_conf_none (MakesAll listed) runs_none (MakesSome listed) begins_none
         unbooted_none (listed, lists))
 
--- by a policy
+-- by an order
 module _ (task : TraceTask) (options : Drive) (files : List ℕ → Option (List ℕ)) (known : Option (List ℕ)) (some : task.drive ≡ Some options) where
-  pub drive_early : (input a : Option (List ℕ)) (fault : Fault) → IsDrivenFault (driven_of task options) known fault →
+  pub drive_early : (input a : Option (List ℕ)) (fault : Fault) → IsOrderFault task.image task.size options files known fault →
       IsTraceFault task files known (streams input input a a) fault
   drive_early input a fault h = early task (Some options) some files known input input a a refl fault h refl
 
-  -- with the keys that were read
-  module _ (a c : Option (List ℕ)) (file : List ℕ) (is_file : IfSome known (λ bytes. file ≡ bytes)) (conf : Conf) (is_conf : conf ≡ conf_asked task.size) (keys : List ℕ)
-      (are : AreKeys options.keys files keys) (r : Result RunStop Fault) where
+  -- whose inputs were read
+  module _ (a c : Option (List ℕ)) (file keys : List ℕ) (first : List Event) (conf : Conf) (inputs : AreInputs task.size options files known file keys first conf)
+      (r : Result RunStop Fault) where
     abbrev IsAll : State → List Entry → RunStop → State → Type 0
-    IsAll = DrivesAll (rules_of options keys) options.events
+    IsAll = GoesAll (rules_of options keys) options.events first
 
     abbrev IsSome : State → List Entry → State → Type 0
-    IsSome = DrivesSome (rules_of options keys) options.events
+    IsSome = GoesSome (rules_of options keys) options.events first
+
+    lists_if : (read : Option (List ℕ)) → ListsFirst task.size file read first conf → ListsIf read first
+    lists_if None h = h.0
+    lists_if (Some bytes) h = (h.0, h.1)
+
+    ordered : AreOrdered options files keys first
+    ordered = record {
+      are_keys = inputs.are_keys;
+      text = inputs.text;
+      is_text = inputs.is_text;
+      lists = lists_if inputs.text inputs.lists;
+    }
+
+    is_conf_some : (input : Option (List ℕ)) → IsConfOf (Some options) task.size files file input conf
+    is_conf_some input = (inputs.text, first, inputs.is_text, inputs.lists)
 
     runs_some : (input : Option (List ℕ)) (s t : State) (entries : List Entry) (stop : RunStop) → IsAll s entries stop t →
         Runs (Some options) files input s entries stop t
-    runs_some input s t entries stop h = record { keys = keys; are_keys = are; driven = h.0; drives = h.1; stop_is = h.2 }
+    runs_some input s t entries stop h = record { keys = keys; first = first; inputs = ordered; goes = h }
 
     begins_some : (input : Option (List ℕ)) (s t : State) (entries : List Entry) → IsSome s entries t →
         Begins (Some options) files input s entries t
-    begins_some input s t entries h = record { keys = keys; are_keys = are; few = h.few; cursor = h.cursor; chosen_are = h.chosen_are }
+    begins_some input s t entries h = record { keys = keys; first = first; inputs = ordered; goes = h }
 
     unbooted_some : (e : BootError) → BootsState file conf (boot_fault file conf) (Err e) →
-        IsDrivenFault (driven_of task options) known (fault_of_boot e)
-    unbooted_some e h =
-        state_failed (IsDrivenFault (driven_of task options) known) known (conf_asked task.size) file e is_file (λ outside. outside)
-        (λ e has. has) tt (subst (λ conf. BootsState file conf (boot_fault file conf) (Err e)) is_conf h)
+        IsOrderFault task.image task.size options files known (fault_of_boot e)
+    unbooted_some e h = order_unbooted task.image task.size options files known file inputs.is_file keys first conf e inputs h
 
-    pub drive_ok : IfOk r (PrintsRun task conf file (DrivesAll (rules_of options keys) options.events) a c) →
+    pub drive_ok : IfOk r (PrintsRun task conf file (GoesAll (rules_of options keys) options.events first) a c) →
         IfOk r (λ stop. (input : Option (List ℕ)) → IsTraced task files known (streams input input a c) stop)
     drive_ok =
         IfOk-weaker r (PrintsRun task conf file IsAll a c) (λ stop. (input : Option (List ℕ)) → IsTraced task files known (streams input input a c) stop)
-        (λ stop h input. task_traced task (Some options) some files known input input a c refl file is_file conf is_conf IsAll (runs_some input) stop h)
+        (λ stop h input.
+        task_traced task (Some options) some files known input input a c refl file inputs.is_file conf (is_conf_some input) IsAll (runs_some input) stop h)
 
-    pub drive_bad : IfErr r (FailsRun task conf file (DrivesSome (rules_of options keys) options.events) (DrivesAll (rules_of options keys) options.events) a c) →
+    pub drive_bad : IfErr r (FailsRun task conf file (GoesSome (rules_of options keys) options.events first) (GoesAll (rules_of options keys) options.events first) a c) →
         IfErr r (λ fault. (input : Option (List ℕ)) → IsTraceFault task files known (streams input input a c) fault)
     drive_bad =
         IfErr-weaker r (FailsRun task conf file IsSome IsAll a c)
         (λ fault. (input : Option (List ℕ)) → IsTraceFault task files known (streams input input a c) fault)
-        (λ fault h input. task_failed task (Some options) some files known input input a c refl file is_file conf is_conf IsAll (runs_some input) IsSome
-        (begins_some input) unbooted_some (keys, are) fault h)
+        (λ fault h input.
+        task_failed task (Some options) some files known input input a c refl file inputs.is_file conf (is_conf_some input) IsAll (runs_some input) IsSome
+        (begins_some input) unbooted_some (keys, first, ordered) fault h)

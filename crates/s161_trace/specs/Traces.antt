@@ -14,9 +14,9 @@ use Rattle.m161_debug.specs.Commands.{IsPlace}
 use Rattle.m161_debug.specs.Conditions.{physical_of}
 use Rattle.m161_dis.specs.declared.naming.Style.{Style}
 use Rattle.m161_drive.specs.declared.cursor.Cursor.{Cursor}
-use Rattle.m161_drive.specs.declared.run.Driven.{Driven}
 use Rattle.m161_drive.specs.Choice.{cursor_at}
-use Rattle.m161_drive.specs.Drive.{Chooses, Drives}
+use Rattle.m161_drive.specs.Drive.{Chooses}
+use Rattle.m161_drive.specs.Policy.{Rules}
 use Rattle.m161_text.specs.Lines.{text_of, with_line_end}
 use Rattle.m161_trace.specs.Line.{event_line_with}
 use Rattle.m161_trace.specs.Loads.{word_around}
@@ -26,32 +26,32 @@ use Rattle.s161_base.specs.declared.fault.Fault.{Fault}
 use Rattle.s161_base.specs.declared.fault.Fault.TheVariants.{Memory, Output, Touches}
 use Rattle.s161_base.specs.Faults.{BootsIn}
 use Rattle.s161_base.specs.Known.{OfText}
-use Rattle.s161_base.specs.Listed.{Lists, ListsFor}
-use Rattle.s161_base.specs.Machines.{conf_asked}
+use Rattle.s161_base.specs.Listed.{IsTextOf, Lists, ListsFirst, ListsFor}
 use Rattle.s161_base.specs.declared.machines.NamedMachine.{NamedMachine}
 use Rattle.s161_command.specs.declared.task.AskedSize.{AskedSize}
 use Rattle.s161_base.specs.Naming.{image_symbols, style_of}
 use Rattle.s161_base.specs.Streams.{AppendsSome, Streams}
 use Rattle.s161_command.specs.declared.drive.Drive.{Drive}
-use Rattle.s161_command.specs.declared.task.DrivenTask.{DrivenTask}
 use Rattle.s161_command.specs.declared.task.RunTask.{RunTask}
 use Rattle.s161_command.specs.declared.task.Shown.TheVariants.{Summary}
 use Rattle.s161_command.specs.declared.task.TraceTask.{TraceTask}
-use Rattle.s161_run.specs.Driven.{AreKeys, IsDrivenFault, rules_of, stop_of}
+use Rattle.s161_run.specs.Behind.{GoesBehind}
+use Rattle.s161_run.specs.Driven.{AreKeys, IsOrderFault, rules_of}
 use Rattle.s161_run.specs.declared.events.RunStop.{RunStop}
+use Rattle.s161_run.specs.declared.events.RunStop.TheVariants.{End}
 use Rattle.s161_trace.specs.Shared.{Touch, event_touches, has_one, is_shared}
 use Rattle.s161_run.specs.Runs.{IsFaultOf, MakesEvents, stop_line}
 
 -- A line for each event of a run, and last why the run stopped.
 
--- its files, in the order in which they are read: the image's, and with an order that of the keys, if
--- they are given
-abbrev pub keys_files : Option Drive → List (List ℕ)
-keys_files None = []
-keys_files (Some drive) = option_files drive.keys
+-- its files, in the order in which they are read: the image's, and with an order that of the events that
+-- come first, and that of the keys, if they are given
+abbrev pub drive_files : Option Drive → List (List ℕ)
+drive_files None = []
+drive_files (Some drive) = option_files drive.after ++ option_files drive.keys
 
 abbrev pub trace_files : TraceTask → List (List ℕ)
-trace_files task = image_files task.image.now ++ keys_files task.drive
+trace_files task = image_files task.image.now ++ drive_files task.drive
 
 -- which events have lines
 
@@ -201,15 +201,28 @@ pub record RunsSchedule
   pub lists : ListsIn input listed
   pub makes : MakesEvents s listed stop entries t
 
--- from a state the events that a policy chooses, with the keys of a file, are made
+-- these are the events that a text lists, if there is one; else there are none
+abbrev pub ListsIf : Option (List ℕ) → List Event → Type 0
+ListsIf None events = events ≡ []
+ListsIf (Some text) events = (named : Option NamedMachine) × Lists text events named
+
+-- the inputs of an order: the keys of a file, and the events that come first, those of another file
+pub record AreOrdered
+    (options : Drive) (files : List ℕ → Option (List ℕ)) (keys : List ℕ) (first : List Event)
+    : Type 0 where
+  pub are_keys : AreKeys options.keys files keys
+  pub text : Option (List ℕ)
+  pub is_text : IsTextOf options.after files text
+  pub lists : ListsIf text first
+
+-- from a state the events that come first are made, and then those that a policy chooses behind them
 pub record RunsDriven
     (options : Drive) (files : List ℕ → Option (List ℕ)) (s : State) (entries : List Entry)
     (stop : RunStop) (t : State) : Type 0 where
   pub keys : List ℕ
-  pub are_keys : AreKeys options.keys files keys
-  pub driven : Driven
-  pub drives : Drives (rules_of options keys) options.events s driven entries t
-  pub stop_is : stop ≡ stop_of driven t
+  pub first : List Event
+  pub inputs : AreOrdered options files keys first
+  pub goes : GoesBehind (rules_of options keys) options.events s first stop entries t
 
 -- a whole run: without a drive of the events that the input lists
 abbrev pub Runs :
@@ -225,25 +238,38 @@ IsWhole task files input s whole =
     task.shared ≡ true
     → (stop : RunStop) × (t : State) × Runs task.drive files input s whole stop t
 
--- such a run so far, whether or not more events come: the first of a list's
+-- such a run so far, whether or not more events come: the first of a list's are made, with these entries
+abbrev pub MakesSome : List Event → State → List Entry → State → Type 0
+MakesSome events s entries t =
+    (events_of entries ≡ take (length entries) events) × Leads s entries t
+
 pub record BeginsSchedule
     (input : Option (List ℕ)) (s : State) (entries : List Entry) (t : State) : Type 0 where
   pub listed : List Event
   pub lists : ListsIn input listed
-  pub are_first : events_of entries ≡ take (length entries) listed
-  pub leads : Leads s entries t
+  pub makes : MakesSome listed s entries t
 
--- or those that the policy chooses, one after the other
+-- or those that a policy chooses, one after the other, at most so many
+pub record DrivesSome
+    (rules : Rules) (most : ℕ) (s : State) (entries : List Entry) (t : State) : Type 0 where
+  pub few : length entries ≤ most
+  pub cursor : Cursor
+  pub chosen_are : Chooses rules (slice_get rules.keys) (cursor_at rules s) s entries cursor t
+
+-- or some of the events that come first; or all of them, and some that a policy chooses behind them
+abbrev pub GoesSome : Rules → ℕ → List Event → State → List Entry → State → Type 0
+GoesSome rules most first s entries t =
+    MakesSome first s entries t
+    ⊎ ((all more : List Entry) × (between : State) × MakesEvents s first End all between
+    × DrivesSome rules most between more t × (entries ≡ all ++ more))
+
 pub record BeginsDriven
     (options : Drive) (files : List ℕ → Option (List ℕ)) (s : State) (entries : List Entry)
     (t : State) : Type 0 where
   pub keys : List ℕ
-  pub are_keys : AreKeys options.keys files keys
-  pub few : length entries ≤ options.events
-  pub cursor : Cursor
-  pub chosen_are :
-      Chooses (rules_of options keys) (slice_get keys) (cursor_at (rules_of options keys) s) s
-      entries cursor t
+  pub first : List Event
+  pub inputs : AreOrdered options files keys first
+  pub goes : GoesSome (rules_of options keys) options.events first s entries t
 
 abbrev pub Begins :
     Option Drive → (List ℕ → Option (List ℕ)) → Option (List ℕ) → State → List Entry → State →
@@ -251,20 +277,24 @@ abbrev pub Begins :
 Begins None files input s entries t = BeginsSchedule input s entries t
 Begins (Some drive) files input s entries t = BeginsDriven drive files s entries t
 
--- the machine of a task over an image's file: without a drive the one that is asked for over the input's
--- text
-abbrev pub IsConfOf : Option Drive → AskedSize → List ℕ → Option (List ℕ) → Conf → Type 0
-IsConfOf None asked file input conf =
+-- the machine of a task over an image's file: the one that is asked for over the input's text; with a
+-- drive over the text of the events that come first
+abbrev pub IsConfOf :
+    Option Drive → AskedSize → (List ℕ → Option (List ℕ)) → List ℕ → Option (List ℕ) → Conf → Type 0
+IsConfOf None asked files file input conf =
     OfText input (λ text. (events : List Event) × ListsFor asked file text events conf)
-IsConfOf (Some drive) asked file input conf = conf ≡ conf_asked asked
+IsConfOf (Some drive) asked files file input conf =
+    (text : Option (List ℕ)) × (first : List Event) × IsTextOf drive.after files text
+    × ListsFirst asked file text first conf
 
 -- the task's image is booted; its file has these bytes, as far as they are known
 pub record BootsFor
-    (task : TraceTask) (known : Option (List ℕ)) (input : Option (List ℕ)) (booted : State) : Type 0 where
+    (task : TraceTask) (files : List ℕ → Option (List ℕ)) (known : Option (List ℕ))
+    (input : Option (List ℕ)) (booted : State) : Type 0 where
   pub file : List ℕ
   pub is_file : IfSome known (λ bytes. file ≡ bytes)
   pub conf : Conf
-  pub is_conf : IsConfOf task.drive task.size file input conf
+  pub is_conf : IsConfOf task.drive task.size files file input conf
   pub boots : BootsIn file conf booted
 
 -- with an order the input isn't read
@@ -277,7 +307,7 @@ pub record IsTraced
     (task : TraceTask) (files : List ℕ → Option (List ℕ)) (known : Option (List ℕ)) (x : Streams)
     (stop : RunStop) : Type 0 where
   pub booted : State
-  pub boots : BootsFor task known x.input booted
+  pub boots : BootsFor task files known x.input booted
   pub touches : Option ℕ
   pub is_asked : IsAskedWord task boots.conf.ram boots.file touches
   pub whole : List Entry
@@ -294,19 +324,19 @@ pub record IsTraced
 abbrev pub run_of : TraceTask → RunTask
 run_of task = record { image = task.image; size = task.size; shown = Summary; traps = false }
 
-abbrev pub driven_of : TraceTask → Drive → DrivenTask
-driven_of task drive = record { run = run_of task; drive = drive }
-
 -- what a fault before the run says of its inputs, as for `run`
 abbrev pub IsEarlyFault :
-    Option Drive → TraceTask → Option (List ℕ) → Option (List ℕ) → Fault → Type 0
-IsEarlyFault None task known input fault = IsFaultOf (run_of task) known input fault
-IsEarlyFault (Some drive) task known input fault = IsDrivenFault (driven_of task drive) known fault
+    Option Drive → TraceTask → (List ℕ → Option (List ℕ)) → Option (List ℕ) → Option (List ℕ) →
+    Fault → Type 0
+IsEarlyFault None task files known input fault = IsFaultOf (run_of task) known input fault
+IsEarlyFault (Some drive) task files known input fault =
+    IsOrderFault task.image task.size drive files known fault
 
--- the inputs are read: a list of events, or the keys
+-- the inputs are read: a list of events, or those of an order
 abbrev pub HasInputs : Option Drive → (List ℕ → Option (List ℕ)) → Option (List ℕ) → Type 0
 HasInputs None files input = (events : List Event) × ListsIn input events
-HasInputs (Some drive) files input = (keys : List ℕ) × AreKeys drive.keys files keys
+HasInputs (Some drive) files input =
+    (keys : List ℕ) × (first : List Event) × AreOrdered drive files keys first
 
 -- where they are, and the image is booted, the word that the task asks for may stand for none
 pub record LacksWord
@@ -314,7 +344,7 @@ pub record LacksWord
     (fault : Fault) : Type 0 where
   pub has_inputs : HasInputs task.drive files x.input
   pub booted : State
-  pub boots : BootsFor task known x.input booted
+  pub boots : BootsFor task files known x.input booted
   pub text : Bor (List ℕ)
   pub asked : task.touches ≡ Some text
   pub is_none : IsNoWord (symbols_of task boots.file) boots.conf.ram text.now
@@ -327,7 +357,7 @@ pub record FailsInRun
     (fault : Fault) : Type 0 where
   pub is_fault : (fault ≡ Output) ⊎ (fault ≡ Memory)
   pub booted : State
-  pub boots : BootsFor task known x.input booted
+  pub boots : BootsFor task files known x.input booted
   pub touches : Option ℕ
   pub is_asked : IsAskedWord task boots.conf.ram boots.file touches
   pub whole : List Entry
@@ -348,6 +378,6 @@ pub record IsTraceFault
     (fault : Fault) : Type 0 where
   pub is_unread : IsUnread task.drive x
   pub why :
-      ((IsEarlyFault task.drive task known x.input fault ⊎ LacksWord task files known x fault)
+      ((IsEarlyFault task.drive task files known x.input fault ⊎ LacksWord task files known x fault)
       × (x.after ≡ x.before))
       ⊎ FailsInRun task files known x fault

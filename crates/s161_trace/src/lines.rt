@@ -255,6 +255,13 @@ impl Lines {
         Ok(())
     }
 
+    /// How many events were made so far.
+    pub(crate) fn number(&self) -> u64
+        ensures { result ≡ self.now.number }
+    {
+        self.number
+    }
+
     /// What was noted of the words that the events touched.
     pub(crate) fn into_noted(self) -> SharedWords
         ensures { result ≡ self.noted }

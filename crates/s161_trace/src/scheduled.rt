@@ -2,8 +2,9 @@
 
 ghost use Rattle.std.specs.Prelude.{◌≡◌, ◌<◌, ◌+◌, ◌-◌, ◌^◌, IfErr, IfOk};
 ghost use Rattle.s161_base.specs.declared.fault.Fault.TheVariants.{Memory};
+ghost use Rattle.s161_trace.specs.Traces.{MakesSome};
 ghost use Rattle.s161_trace.specs.helpers.Printing.{FailsToPrintAll, FindsShared, PrintsAll};
-ghost use Rattle.s161_trace.specs.helpers.Scheduled.{FailsAlike, FailsInSchedule, FailsOnce, MakesAll, MakesSome, PrintsSchedule, Turn, TurnsAlike};
+ghost use Rattle.s161_trace.specs.helpers.Scheduled.{FailsAlike, FailsInSchedule, FailsOnce, MakesAll, PrintsSchedule, Turn, TurnsAlike};
 
 use crate::filter::LineFilter;
 use crate::lines::Lines;
@@ -63,8 +64,11 @@ fn trace_alike<'a, O: Write>(
     Ok((times, None))
 }
 
-// Makes events in order, until one switches the machine off or is refused, and puts out their lines.
-fn trace_events<'a, O: Write>(
+/// Makes events in order, until one switches the machine off or is refused, and puts out their lines.
+///
+/// # Errors
+/// The output failed, or memory was refused.
+pub(crate) fn trace_events<'a, O: Write>(
     machine: &mut Machine,
     events: &Events,
     lines: &mut Lines,

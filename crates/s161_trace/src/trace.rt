@@ -1,19 +1,19 @@
 //! Printing a line for each event of a run.
 
-ghost use Rattle.std.specs.Prelude.{◌≡◌, ℕ, ◌++◌, List, Option, IfErr, IfOk, IfSome, None, Some};
+ghost use Rattle.std.specs.Prelude.{◌≡◌, ℕ, List, Option, IfErr, IfOk, IfSome, None, Some};
 ghost use Rattle.m161_order.specs.Order.{order_fault};
-ghost use Rattle.s161_base.specs.Asked.{AsksFor, IsBeforeInput, image_files, option_files};
+ghost use Rattle.s161_base.specs.Asked.{AsksFor, IsBeforeInput, image_files};
 ghost use Rattle.s161_base.specs.Known.{OfText};
 ghost use Rattle.s161_base.specs.Listed.{ListsFor};
 ghost use Rattle.s161_base.specs.Samples.{image_file};
 ghost use Rattle.s161_base.specs.Streams.{streams};
-ghost use Rattle.s161_run.specs.Driven.{AreKeys, IsDrivenFault, rules_of};
+ghost use Rattle.s161_run.specs.Driven.{order_files, rules_of};
 ghost use Rattle.s161_run.specs.Runs.{IsFaultOf};
-ghost use Rattle.s161_trace.specs.Traces.{IsTraced, IsTraceFault, driven_of, run_of, trace_files};
+ghost use Rattle.s161_trace.specs.Traces.{GoesSome, IsTraced, IsTraceFault, MakesSome, run_of, trace_files};
 ghost use Rattle.s161_trace.specs.helpers.Booted.{FailsRun, IsSharedIf, PrintsRun, with_shared};
 ghost use Rattle.s161_base.specs.declared.fault.Fault.TheVariants.{Memory};
-ghost use Rattle.s161_trace.specs.helpers.Driven.{DrivesAll, DrivesSome};
-ghost use Rattle.s161_trace.specs.helpers.Scheduled.{MakesAll, MakesSome};
+ghost use Rattle.s161_trace.specs.helpers.Driven.{GoesAll};
+ghost use Rattle.s161_trace.specs.helpers.Scheduled.{MakesAll};
 
 use crate::driven::{print_drive, shared_in_drive};
 use crate::filter::LineFilter;
@@ -24,16 +24,16 @@ use s161_base::fault::Fault;
 use s161_base::files::FileSource;
 use s161_base::input::read_input;
 use s161_base::listed::{Planned, plan_run};
-use s161_base::machines::conf_asked;
 use s161_base::sample::read_image;
 use s161_command::{Drive, TraceTask};
 use s161_run::events::RunStop;
-use s161_run::policy::read_keys;
+use s161_run::inputs::{Inputs, read_inputs};
 use std::alloc::Global;
 use std::io::{Read, Write};
 
-/// Reads the image, and the schedule or the log from the input, or the keys; boots the image, and makes
-/// the text's events, or those that the policy chooses. The lines of the events that the task asks
+/// Reads the image, and the schedule or the log from the input, or with an order the text of the events that
+/// come first and the keys; boots the image, and makes the text's events, and with an order those that it
+/// chooses behind them. The lines of the events that the task asks
 /// for are written in pieces of whole lines, at most 65,536 bytes each, as the run goes on; the last
 /// piece ends with why it stopped.
 ///
@@ -169,42 +169,20 @@ fn trace_schedule<'a, F: FileSource, I: Read, O: Write>(
     run_schedule(alloc, &task, read.1.conf, &read.0, &read.1.events, output)
 }
 
-// The image's bytes, and the keys.
-fn read_driven<'a, F: FileSource>(
-    alloc: Global,
-    files: &mut F,
-    task: TraceTask<'a>,
-    options: Drive<'a>,
-) -> Result<(Vec<u8>, Vec<u8>), Fault<'a>>
-    ensures file { IfOk result (λ read. IfSome
-        (image_file (F.known files.old) task.entry.image.now) (λ bytes. read.0.items ≡ bytes)) }
-    ensures keys { IfOk result (λ read. AreKeys options.entry.keys (F.known files.old)
-        read.1.items) }
-    ensures fault { IfErr result (IsDrivenFault (driven_of task.entry options.entry)
-        (image_file (F.known files.old) task.entry.image.now)) }
-    ensures asks { AsksFor (image_files task.entry.image.now ++ option_files options.entry.keys)
-        result (F.asked files.old) (F.asked files.new) }
-{
-    let file = read_image(alloc, files, task.image)?;
-    let keys = read_keys(alloc, files, options.keys)?;
-    Ok((file, keys))
-}
-
-// The filter, with the words of RAM, of so many bytes, that are shared in the run by a policy with these
-// keys, if the task asks for them.
+// The filter, with the words of RAM that are shared in the run by an order, if the task asks for them.
 fn share_drive<'a>(
     alloc: Global,
     task: &TraceTask<'_>,
-    ram: u32,
     machine: &Machine,
     options: Drive<'_>,
-    keys: &[u8],
+    read: &Inputs,
     filter: LineFilter,
 ) -> Result<LineFilter, Fault<'a>>
     requires { order_fault options.order ≡ None }
     ensures ok { IfOk result (λ w. (w ≡ with_shared filter w.shared)
-        × IsSharedIf task.now ram machine.now.state
-        (DrivesAll (rules_of options.entry keys.now) options.entry.events) w.shared) }
+        × IsSharedIf task.now read.now.first.conf.ram machine.now.state
+        (GoesAll (rules_of options.entry read.now.keys.items) options.entry.events
+        read.now.first.events) w.shared) }
     ensures err { IfErr result (λ fault. fault ≡ Memory) }
 {
     if !task.shared {
@@ -213,40 +191,39 @@ fn share_drive<'a>(
             ..filter
         });
     }
-    let words = (ram / 4) as usize;
-    let shared = shared_in_drive(alloc, machine, options, keys, words, task.from, task.count)?;
+    let words = (read.first.conf.ram / 4) as usize;
+    let shared = shared_in_drive(alloc, machine, options, read, words, task.from, task.count)?;
     Ok(LineFilter {
         shared: Some(shared),
         ..filter
     })
 }
 
-// Boots a file, and prints the lines of its run by a policy with these keys.
+// Boots a file, and prints the lines of its run by an order.
 fn run_drive<'a, O: Write>(
     alloc: Global,
     task: &TraceTask<'a>,
-    conf: Conf,
     options: Drive<'_>,
-    file: &[u8],
-    keys: &[u8],
+    read: &Inputs,
     output: &mut O,
 ) -> Result<RunStop, Fault<'a>>
     requires { order_fault options.order ≡ None }
-    ensures ok { IfOk result (PrintsRun task.now conf file.now
-        (DrivesAll (rules_of options.entry keys.now) options.entry.events)
+    ensures ok { IfOk result (PrintsRun task.now read.now.first.conf read.now.file.items
+        (GoesAll (rules_of options.entry read.now.keys.items) options.entry.events read.now.first.events)
         (O.contents output.old) (O.contents output.new)) }
-    ensures err { IfErr result (FailsRun task.now conf file.now
-        (DrivesSome (rules_of options.entry keys.now) options.entry.events)
-        (DrivesAll (rules_of options.entry keys.now) options.entry.events)
+    ensures err { IfErr result (FailsRun task.now read.now.first.conf read.now.file.items
+        (GoesSome (rules_of options.entry read.now.keys.items) options.entry.events read.now.first.events)
+        (GoesAll (rules_of options.entry read.now.keys.items) options.entry.events read.now.first.events)
         (O.contents output.old) (O.contents output.new)) }
 {
-    let mut machine = Machine::boot(alloc, file, conf)?;
-    let filter = LineFilter::of(alloc, task, conf.ram, file)?;
-    let filter = share_drive(alloc, task, conf.ram, &machine, options, keys, filter)?;
-    print_drive(alloc, &mut machine, options, keys, filter, output)
+    let conf = read.first.conf;
+    let mut machine = Machine::boot(alloc, &read.file, conf)?;
+    let filter = LineFilter::of(alloc, task, conf.ram, &read.file)?;
+    let filter = share_drive(alloc, task, &machine, options, read, filter)?;
+    print_drive(alloc, &mut machine, options, read, filter, output)
 }
 
-// Prints the lines of a driven run.
+// Prints the lines of a run by an order.
 fn trace_driven<'a, F: FileSource, O: Write>(
     alloc: Global,
     files: &mut F,
@@ -262,10 +239,9 @@ fn trace_driven<'a, F: FileSource, O: Write>(
     ensures fault { IfErr result (λ fault. (input : Option (List ℕ)) → IsTraceFault task.entry
         (F.known files.old) (image_file (F.known files.old) task.entry.image.now)
         (streams input input (O.contents output.old) (O.contents output.new)) fault) }
-    ensures asks { AsksFor (image_files task.entry.image.now ++ option_files options.entry.keys)
-        result (F.asked files.old) (F.asked files.new) }
+    ensures asks { AsksFor (order_files task.entry.image.now options.entry) result (F.asked files.old)
+        (F.asked files.new) }
 {
-    let read = read_driven(alloc, files, task, options)?;
-    let conf = conf_asked(task.size);
-    run_drive(alloc, &task, conf, options, &read.0, &read.1, output)
+    let read = read_inputs(alloc, files, task.image, task.size, options)?;
+    run_drive(alloc, &task, options, &read, output)
 }

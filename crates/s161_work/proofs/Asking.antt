@@ -35,10 +35,10 @@ console_before task known x fault (inl h) = untouched fault x.input x.left h.1.0
 console_before task known x fault (inr h) = none_before fault x.input x.left (serve_is_none task.drive h.0 x fault h.2)
 
 -- a debugger's session
-pub debug_before : (task : DebugTask) (files : Text → Option (List ℕ)) (image : Option (List ℕ)) (x : Streams) (fault : Fault) →
-    IsDebugFault task files image x fault → IsBeforeInput fault x.input x.left
-debug_before task files image x fault (inl h) = untouched fault x.input x.left h.1.0
-debug_before task files image x fault (inr h) = none_before fault x.input x.left (behind_is_none fault h.4.part h.4.is_behind)
+pub debug_before : (task : DebugTask) (files : Text → Option (List ℕ)) (image : Option (List ℕ)) (x : Streams) (errors told : Option (List ℕ)) (fault : Fault) →
+    IsDebugFault task files image x errors told fault → IsBeforeInput fault x.input x.left
+debug_before task files image x errors told fault (inl h) = untouched fault x.input x.left h.1.0
+debug_before task files image x errors told fault (inr h) = none_before fault x.input x.left (behind_is_none fault h.4.part h.4.is_behind)
 
 -- a session of GDB
 pub gdb_before : (task : GdbTask) (files : Text → Option (List ℕ)) (image : Option (List ℕ)) (x : Streams) (fault : Fault) →

@@ -108,14 +108,14 @@ FailsToTrace task files before after fault =
     IsTraceFault task files (image_file files task.image.now) (streams_of before after) fault
     × (after.errors ≡ before.errors)
 
--- so is a debugger's session
+-- a debugger's session is ended by this fault, and notes were written to standard error
 abbrev pub FailsToDebug :
     DebugTask → (Text → Option (List ℕ)) → Standard → Standard → Fault → Type 0
 FailsToDebug task files before after fault =
-    IsDebugFault task files (image_file files task.image.now) (streams_of before after) fault
-    × (after.errors ≡ before.errors)
+    IsDebugFault task files (image_file files task.image.now) (streams_of before after)
+    before.errors after.errors fault
 
--- and a session of GDB
+-- so is a session of GDB, and nothing was written to standard error
 abbrev pub FailsToAnswer :
     GdbTask → (Text → Option (List ℕ)) → Standard → Standard → Fault → Type 0
 FailsToAnswer task files before after fault =

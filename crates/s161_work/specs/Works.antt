@@ -158,12 +158,13 @@ pub record IsTracedOut
   pub is_silent : after.errors ≡ before.errors
   pub status_is : status ≡ status_of stop
 
--- the commands of a debugger were answered, and nothing was written to standard error
+-- the commands of a debugger were answered, and the notes on them were written to standard error
 pub record IsDebuggedOut
     (task : DebugTask) (files : Text → Option (List ℕ)) (before after : Standard) (status : ℕ)
     : Type 0 where
-  pub debugged : IsDebug task files (image_file files task.image.now) (streams_of before after)
-  pub is_silent : after.errors ≡ before.errors
+  pub debugged :
+      IsDebug task files (image_file files task.image.now) (streams_of before after) before.errors
+      after.errors
   pub status_is : status ≡ 0
 
 -- a client of GDB's protocol was answered, and nothing was written to standard error

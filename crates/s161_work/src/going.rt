@@ -75,28 +75,29 @@ pub(crate) fn trace_out<'a, F: FileSource, I: Read, O: Write>(
     Ok(status(stop))
 }
 
-/// Answers a debugger's commands. Returns the exit status.
-pub(crate) fn debug_out<'a, F: FileSource, I: Read, O: Write>(
+/// Answers a debugger's commands, with notes on standard error. Returns the exit status.
+pub(crate) fn debug_out<'a, F: FileSource, I: Read, O: Write, E: Write>(
     alloc: Global,
     task: DebugTask<'a>,
     files: &mut F,
     input: &mut I,
     output: &mut O,
+    errors: &mut E,
 ) -> Result<u8, Fault<'a>>
     requires { HasSourceLimits task.source }
-    ensures debugged { (errors : Option (List ℕ)) → IfOk result (IsDebuggedOut task.entry (F.known files.old)
-        (standard (I.remaining input.old) (O.contents output.old) errors)
-        (standard (I.remaining input.new) (O.contents output.new) errors)) }
-    ensures fault { (errors : Option (List ℕ)) → IfErr result (FailsToDebug task.entry (F.known files.old)
-        (standard (I.remaining input.old) (O.contents output.old) errors)
-        (standard (I.remaining input.new) (O.contents output.new) errors)) }
+    ensures debugged { IfOk result (IsDebuggedOut task.entry (F.known files.old)
+        (standard (I.remaining input.old) (O.contents output.old) (E.contents errors.old))
+        (standard (I.remaining input.new) (O.contents output.new) (E.contents errors.new))) }
+    ensures fault { IfErr result (FailsToDebug task.entry (F.known files.old)
+        (standard (I.remaining input.old) (O.contents output.old) (E.contents errors.old))
+        (standard (I.remaining input.new) (O.contents output.new) (E.contents errors.new))) }
     ensures asks { AsksFor (debug_files task.entry) result (F.asked files.old)
         (F.asked files.new) }
     ensures before { IfErr result (λ fault. IsBeforeInput fault (I.remaining input.old)
         (I.remaining input.new)) }
     ensures within { IfOk result (λ status. status ≡ 0) }
 {
-    debug(alloc, files, input, output, task)?;
+    debug(alloc, files, input, output, errors, task)?;
     Ok(0)
 }
 

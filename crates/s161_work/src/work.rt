@@ -137,7 +137,7 @@ fn do_task<'a, R: Threads + Wait + Sync, F: FileSource, I: Read, O: Write, E: Wr
     match task {
         Task::Console(task) => serve(alloc, task, files, input, output, errors),
         Task::Trace(task) => trace_out(alloc, task, files, input, output),
-        Task::Debug(task) => debug_out(alloc, task, files, input, output),
+        Task::Debug(task) => debug_out(alloc, task, files, input, output, errors),
         Task::Gdb(task) => gdb_out(alloc, task, files, input, output),
         Task::Demo
         | Task::Run(_)

@@ -12,6 +12,7 @@ use Rattle.s161_base.specs.Streams.{AppendsSome}
 use Rattle.s161_debug.specs.declared.line.Line.{Line}
 use Rattle.s161_debug.specs.Blanks.{spaced}
 use Rattle.s161_debug.specs.Lines.{Does, asked_by}
+use Rattle.s161_debug.specs.Notes.{TakesNotes, note_of}
 
 -- The next line of a session.
 
@@ -43,34 +44,52 @@ abbrev pub IsUnfinished : Option (List ℕ) → Option (List ℕ) → Fault → 
 IsUnfinished input left fault =
     (part : List ℕ) × Lacks 10 part × Consumes input left part × IsUnread fault part
 
--- where a session is: its state, the events that are left, and what the output holds
+-- where a session is: its state, the events that are left, and what the output and standard error hold
 pub record Place : Type 0 where
   pub session : SessionState
   pub events : List Event
   pub output : Option (List ℕ)
+  pub errors : Option (List ℕ)
 
-abbrev pub place : SessionState → List Event → Option (List ℕ) → Place
-place session events output = record { session = session; events = events; output = output }
+abbrev pub place : SessionState → List Event → Option (List ℕ) → Option (List ℕ) → Place
+place session events output errors = record {
+  session = session;
+  events = events;
+  output = output;
+  errors = errors;
+}
 
--- a line is done, whose blanks are spaced, and a part of what it prints is written
+-- a line is done, whose blanks are spaced; and of what it prints, and of the note on it, this is written
 pub record Answers
     (line : List ℕ) (p : Place) (q : Place)
-    (IsWritten : Option (List ℕ) → Option (List ℕ) → List ℕ → Type 0) : Type 0 where
+    (IsWritten : Option (List ℕ) → Option (List ℕ) → List ℕ → Type 0)
+    (IsNoted : List ℕ → Option (List ℕ) → Option (List ℕ) → Type 0) : Type 0 where
   pub utf8 : IsText line
   pub printed : List ℕ
   pub does : Does (asked_by line) line p.session p.events q.session q.events printed
   pub written : IsWritten p.output q.output printed
+  pub noted : IsNoted (note_of line printed) p.errors q.errors
 
--- a line isn't done, or what it prints isn't written
+-- nothing of a note is written; or some of it
+abbrev pub TakesNone : List ℕ → Option (List ℕ) → Option (List ℕ) → Type 0
+TakesNone note before after = after ≡ before
+
+abbrev pub TakesSome : List ℕ → Option (List ℕ) → Option (List ℕ) → Type 0
+TakesSome note before after = AppendsSome before after note
+
+-- a line isn't done; or what it prints, or the note on it, isn't written
 abbrev pub FailsTurn : Fault → List ℕ → Place → Place → Type 0
-FailsTurn (Input NotUtf8) line p q = (¬ IsText line) × (q.output ≡ p.output)
-FailsTurn Output line p q = Answers line p q AppendsSome
+FailsTurn (Input NotUtf8) line p q =
+    (¬ IsText line) × (q.output ≡ p.output) × (q.errors ≡ p.errors)
+FailsTurn Output line p q =
+    Answers line p q AppendsSome TakesNone ⊎ Answers line p q Appends TakesSome
 FailsTurn _ line p q = ⊥
 
 -- the result of doing a line: whether another may follow
 abbrev pub DoesTurn : Bool → List ℕ → Place → Result Bool Fault → Place → Type 0
 DoesTurn ended line p (Ok more) q =
-    Answers line p q Appends × (more ≡ (ended && not (bytes_eq line (codes "quit"))))
+    Answers line p q Appends TakesNotes
+    × (more ≡ (ended && not (bytes_eq line (codes "quit"))))
 DoesTurn ended line p (Err fault) q = FailsTurn fault line p q
 
 -- there was no line
@@ -95,4 +114,5 @@ abbrev pub Turns :
 Turns input p (Ok more) left q =
     (Rests input p left q × (more ≡ false)) ⊎ TakesLine input p (Ok more) left q
 Turns input p (Err fault) left q =
-    (IsUnfinished input left fault × (q.output ≡ p.output)) ⊎ TakesLine input p (Err fault) left q
+    (IsUnfinished input left fault × (q.output ≡ p.output) × (q.errors ≡ p.errors))
+    ⊎ TakesLine input p (Err fault) left q

@@ -1,16 +1,17 @@
-use Rattle.std.specs.Prelude.{◌≡◌, ◌≤◌, ℕ, List, [], ◌∷◌, length, slice_get, Option, None, Some}
+use Rattle.std.specs.Prelude.{◌≡◌, ℕ, List, [], ◌∷◌, slice_get, Option, None, Some}
 use Rattle.m161_machine.specs.declared.event.Entry.{Entry}
+use Rattle.m161_machine.specs.declared.event.Event.{Event}
 use Rattle.m161_machine.specs.State.{State}
 use Rattle.m161_drive.specs.declared.cursor.Cursor.{Cursor}
 use Rattle.m161_drive.specs.declared.run.Driven.{Driven}
 use Rattle.m161_drive.specs.declared.run.Stop.{Stop}
-use Rattle.m161_drive.specs.Choice.{cursor_at}
-use Rattle.m161_drive.specs.Drive.{Chooses, Drives, Goes, Rests}
+use Rattle.m161_drive.specs.Drive.{Drives, Goes, Rests}
 use Rattle.m161_drive.specs.Policy.{Rules}
 use Rattle.s161_base.specs.declared.fault.Fault.{Fault}
-use Rattle.s161_run.specs.Driven.{stop_of}
-use Rattle.s161_run.specs.declared.events.RunStop.{RunStop as Told}
+use Rattle.s161_run.specs.Behind.{GoesBehind}
+use Rattle.s161_run.specs.declared.events.RunStop.{RunStop}
 use Rattle.s161_trace.specs.declared.lines.Lines.{Lines}
+use Rattle.s161_trace.specs.Traces.{DrivesSome, GoesSome}
 use Rattle.s161_trace.specs.helpers.Printing.{FailsToPrint, Prints}
 
 -- Driven runs whose lines are printed.
@@ -36,18 +37,6 @@ abbrev pub FailsOnce :
 FailsOnce rules c s l before d t after fault =
     (e : Entry) × Goes rules (next_key rules c) c s e d t × FailsToPrint l before (e ∷ []) t after fault
 
--- the events of these entries are chosen, one after the other, at most so many
-pub record DrivesSome
-    (rules : Rules) (most : ℕ) (s : State) (entries : List Entry) (t : State) : Type 0 where
-  pub few : length entries ≤ most
-  pub cursor : Cursor
-  pub chosen_are : Chooses rules (slice_get rules.keys) (cursor_at rules s) s entries cursor t
-
--- these are all that are chosen, for this reason
-abbrev pub DrivesAll : Rules → ℕ → State → List Entry → Told → State → Type 0
-DrivesAll rules most s entries stop t =
-    (driven : Driven) × Drives rules most s driven entries t × (stop ≡ stop_of driven t)
-
 -- the events that are chosen, at most so many, are made, and their lines put out
 pub record PrintsDrive
     (rules : Rules) (most : ℕ) (s : State) (l : Lines) (before : Option (List ℕ)) (driven : Driven)
@@ -62,4 +51,25 @@ pub record FailsInDrive
     (after : Option (List ℕ)) (fault : Fault) : Type 0 where
   pub entries : List Entry
   pub some : DrivesSome rules most s entries t
+  pub fails : FailsToPrint l before entries t after fault
+
+-- these are all events that are made, for this reason: those that come first, and those that the policy
+-- chooses behind them
+abbrev pub GoesAll : Rules → ℕ → List Event → State → List Entry → RunStop → State → Type 0
+GoesAll rules most first s entries stop t = GoesBehind rules most s first stop entries t
+
+-- they are made, and their lines put out
+pub record PrintsBehind
+    (rules : Rules) (most : ℕ) (s : State) (l : Lines) (before : Option (List ℕ)) (first : List Event)
+    (stop : RunStop) (t : State) (k : Lines) (after : Option (List ℕ)) : Type 0 where
+  pub entries : List Entry
+  pub goes : GoesBehind rules most s first stop entries t
+  pub prints : Prints l before entries t k after
+
+-- some of them are made, and their lines can't be put out
+pub record FailsBehind
+    (rules : Rules) (most : ℕ) (s : State) (l : Lines) (before : Option (List ℕ)) (first : List Event)
+    (t : State) (after : Option (List ℕ)) (fault : Fault) : Type 0 where
+  pub entries : List Entry
+  pub some : GoesSome rules most first s entries t
   pub fails : FailsToPrint l before entries t after fault

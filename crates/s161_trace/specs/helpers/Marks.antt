@@ -1,4 +1,4 @@
-use Rattle.std.specs.Prelude.{ℕ, Bool, true, false, ◌==◌, ◌||◌, nat_lt, if◌then◌else◌, List, [], ◌∷◌, length, replicate, slice_index_or, slice_set}
+use Rattle.std.specs.Prelude.{ℕ, Bool, false, ◌==◌, ◌||◌, nat_lt, if◌then◌else◌, List, [], ◌∷◌, length, replicate, slice_index_or, slice_set}
 use Rattle.s161_trace.specs.declared.shared.Mark.{Mark}
 use Rattle.s161_trace.specs.declared.shared.Mark.TheVariants.{Untouched, One, Several}
 use Rattle.s161_trace.specs.declared.shared.SharedWords.{SharedWords}

@@ -1,15 +1,16 @@
-use Rattle.std.specs.Prelude.{◌≡◌, ◌≤◌, ℕ, List, [], ◌∷◌, take, length, Option, None, Some, replicate}
+use Rattle.std.specs.Prelude.{◌≡◌, ◌≤◌, ℕ, List, [], ◌∷◌, Option, None, Some, replicate}
 use Rattle.m161_cpu.specs.declared.processor.Outcome.{Outcome}
 use Rattle.m161_machine.specs.declared.event.Entry.{Entry}
 use Rattle.m161_machine.specs.declared.event.Event.{Event}
 use Rattle.m161_machine.specs.declared.event.Refusal.{Refusal}
 use Rattle.m161_machine.specs.State.{State, next}
-use Rattle.m161_machine.specs.History.{Leads, Refuses, entry, events_of}
+use Rattle.m161_machine.specs.History.{Refuses, entry, events_of}
 use Rattle.s161_base.specs.declared.fault.Fault.{Fault}
 use Rattle.s161_run.specs.declared.events.RunStop.{RunStop}
 use Rattle.s161_run.specs.Runs.{MakesEvents}
 use Rattle.s161_run.specs.helpers.Events.{EndsAfter}
 use Rattle.s161_trace.specs.declared.lines.Lines.{Lines}
+use Rattle.s161_trace.specs.Traces.{MakesSome}
 use Rattle.s161_trace.specs.helpers.Printing.{FailsToPrint, Prints}
 
 -- Runs by a schedule whose lines are printed.
@@ -47,11 +48,6 @@ pub record FailsAlike
   pub entries : List Entry
   pub are_alike : events_of entries ≡ replicate number e
   pub fails : FailsToPrint l before entries t after fault
-
--- the first of these events are made, with these entries
-abbrev pub MakesSome : List Event → State → List Entry → State → Type 0
-MakesSome events s entries t =
-    (events_of entries ≡ take (length entries) events) × Leads s entries t
 
 -- these are all that are made, for this reason
 abbrev pub MakesAll : List Event → State → List Entry → RunStop → State → Type 0

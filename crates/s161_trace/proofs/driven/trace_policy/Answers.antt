@@ -1,8 +1,8 @@
-use Rattle.std.proofs.Common.{◌∙◌, ap, arith, subst}
+use Rattle.std.proofs.Common.{◌∙◌, ap, subst}
 use Rattle.std.proofs.lemmas.Result.{err_from_is_err_and}
 use Rattle.m161_drive.specs.Choice.{cursor_at}
 use Rattle.s161_trace.specs.helpers.Driven.{Turn}
-use Rattle.s161_trace.proofs.Driving.{begins, failed, goes_on, stopped}
+use Rattle.s161_trace.proofs.Driving.{begins, failed, goes_on, number_few, stopped}
 use Rattle.s161_trace.proofs.driven.trace_policy.Goals as goal
 
 pub loop-made-init : goal.loop-made-init
@@ -15,11 +15,8 @@ trace_once-requires-clause-step g c = c.loop-made.invariant.prints.tracer_is
 
 pub trace_once-requires-clause-few : goal.trace_once-requires-clause-few
 trace_once-requires-clause-few g c =
-    let number = c.loop-made.invariant.prints.number_is in
-    let made = c.loop-made.invariant.made_is in
-    let first = c.requires.first in
-    let less = c.loop-made-test.true in
-    omega (arith, number, made, first, less)
+    number_few c.args.lines.now c.loop-made.lines (g.O.Write.contents c.args.output.now) (g.O.Write.contents c.loop-made.output) c.loop-made.invariant.entries
+    c.args.machine.now.state c.loop-made.machine.state c.requires.step c.loop-made.invariant.prints c.requires.few
 
 pub loop-made-preserved : goal.loop-made-preserved
 loop-made-preserved g c =

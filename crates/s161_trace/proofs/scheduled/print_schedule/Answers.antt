@@ -1,6 +1,7 @@
 use Rattle.std.proofs.Common.{refl, inl}
 use Rattle.std.proofs.lemmas.Result.{err_from_is_err_and}
-use Rattle.s161_trace.specs.helpers.Scheduled.{MakesAll, MakesSome}
+use Rattle.s161_trace.specs.Traces.{MakesSome}
+use Rattle.s161_trace.specs.helpers.Scheduled.{MakesAll}
 use Rattle.s161_trace.proofs.Finishing.{all_fail, all_printed, some_fail}
 use Rattle.s161_trace.proofs.scheduled.print_schedule.Goals as goal
 

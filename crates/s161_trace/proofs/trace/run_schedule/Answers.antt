@@ -1,6 +1,7 @@
 use Rattle.std.proofs.Common.{inl}
 use Rattle.std.proofs.lemmas.Result.{err_from_is_err_and}
-use Rattle.s161_trace.specs.helpers.Scheduled.{MakesAll, MakesSome}
+use Rattle.s161_trace.specs.Traces.{MakesSome}
+use Rattle.s161_trace.specs.helpers.Scheduled.{MakesAll}
 use Rattle.s161_trace.specs.helpers.Booted.{FailsRun}
 use Rattle.s161_trace.proofs.Finishing.{booted_so, ends_so, not_booted, run_fails, run_prints, shared_so, without_filter}
 use Rattle.s161_trace.proofs.trace.run_schedule.Goals as goal

@@ -1,6 +1,6 @@
 use Rattle.std.proofs.lemmas.Result.{err_from_is_err_and}
 use Rattle.s161_base.proofs.Asking.{before_input}
-use Rattle.s161_trace.proofs.Asking.{without_keys}
+use Rattle.s161_trace.proofs.Asking.{without_drive}
 use Rattle.s161_trace.proofs.trace.trace.Goals as goal
 
 pub returns-in_err-stop-in-Some-clause-fault : goal.returns-in_err-stop-in-Some-clause-fault
@@ -28,4 +28,4 @@ returns-in_ok-stop-in-Some-clause-asks g c = rw c.in-Some.is c.in_ok-stop-in-Som
 pub returns-in-None-clause-asks : goal.returns-in-None-clause-asks
 returns-in-None-clause-asks g c =
     let asked = g.F.FileSource.asked in
-    without_keys c.args.task c.args.task.drive c.trace_schedule.result (asked c.args.files.now) (asked c.trace_schedule.new.files) c.in-None.is c.trace_schedule.ensures.asks
+    without_drive c.args.task c.args.task.drive c.trace_schedule.result (asked c.args.files.now) (asked c.trace_schedule.new.files) c.in-None.is c.trace_schedule.ensures.asks

@@ -1,12 +1,11 @@
-use Rattle.std.proofs.Common.{◌≡◌, subst, sym, List, ℕ, ◌++◌, Option, IfSome}
+use Rattle.std.proofs.Common.{subst, sym, List, ℕ, Option}
 use Rattle.std.proofs.lemmas.Result.{err_from_is_err_and}
-use Rattle.s161_base.specs.Asked.{image_files, option_files}
 use Rattle.s161_base.specs.declared.fault.Fault.{Fault}
 use Rattle.s161_base.specs.Samples.{image_file}
 use Rattle.s161_base.specs.Streams.{streams}
-use Rattle.s161_run.specs.Driven.{AreKeys, rules_of}
-use Rattle.s161_trace.specs.Traces.{IsTraceFault}
-use Rattle.s161_trace.specs.helpers.Driven.{DrivesAll, DrivesSome}
+use Rattle.s161_run.specs.Driven.{order_files, rules_of}
+use Rattle.s161_trace.specs.Traces.{GoesSome, IsTraceFault}
+use Rattle.s161_trace.specs.helpers.Driven.{GoesAll}
 use Rattle.s161_trace.proofs.Asking.{run_asks}
 use Rattle.s161_trace.proofs.Finishing.{drive_bad, drive_early, drive_ok, ends_so}
 use Rattle.s161_trace.proofs.trace.trace_driven.Goals as goal
@@ -26,19 +25,17 @@ pub returns-clause-ok : goal.returns-clause-ok
 returns-clause-ok g c =
     let files = g.F.FileSource.known c.args.files.now in
     let known = image_file files c.args.task.image.now in
-    let R : List ℕ → Type 0 = λ file. IfSome known (λ bytes. file ≡ bytes) in
+    let read = c.in_ok-read.read in
     drive_ok c.args.task c.args.options files known c.requires.drive (g.O.Write.contents c.args.output.now) (g.O.Write.contents c.run_drive.new.output)
-    c.deref.result.now (subst R (sym c.deref.ensures.value) c.in_ok-read.ensures.file) c.conf_asked-conf.result c.conf_asked-conf.ensures c.deref-2.result.now
-    (subst (AreKeys c.args.options.keys files) (sym c.deref-2.ensures.value) c.in_ok-read.ensures.keys) c.run_drive.result c.run_drive.ensures.ok
+    read.file.items read.keys.items read.first.events read.first.conf c.in_ok-read.ensures.ok c.run_drive.result c.run_drive.ensures.ok
 
 pub returns-clause-fault : goal.returns-clause-fault
 returns-clause-fault g c =
     let files = g.F.FileSource.known c.args.files.now in
     let known = image_file files c.args.task.image.now in
-    let R : List ℕ → Type 0 = λ file. IfSome known (λ bytes. file ≡ bytes) in
+    let read = c.in_ok-read.read in
     drive_bad c.args.task c.args.options files known c.requires.drive (g.O.Write.contents c.args.output.now) (g.O.Write.contents c.run_drive.new.output)
-    c.deref.result.now (subst R (sym c.deref.ensures.value) c.in_ok-read.ensures.file) c.conf_asked-conf.result c.conf_asked-conf.ensures c.deref-2.result.now
-    (subst (AreKeys c.args.options.keys files) (sym c.deref-2.ensures.value) c.in_ok-read.ensures.keys) c.run_drive.result c.run_drive.ensures.err
+    read.file.items read.keys.items read.first.events read.first.conf c.in_ok-read.ensures.ok c.run_drive.result c.run_drive.ensures.err
 
 pub returns-in_err-read-clause-asks : goal.returns-in_err-read-clause-asks
 returns-in_err-read-clause-asks g c =
@@ -49,7 +46,9 @@ pub returns-clause-asks : goal.returns-clause-asks
 returns-clause-asks g c =
     let asked = g.F.FileSource.asked in
     let options = c.args.options in
-    let rules = rules_of options c.deref-2.result.now in
-    run_asks c.args.task c.conf_asked-conf.result c.deref.result.now (DrivesSome rules options.events) (DrivesAll rules options.events) (g.O.Write.contents c.args.output.now)
-    (g.O.Write.contents c.run_drive.new.output) c.run_drive.result c.run_drive.ensures.err (image_files c.args.task.image.now ++ option_files options.keys)
-    (asked c.args.files.now) (asked c.read_driven.new.files) c.in_ok-read.ensures.asks
+    let read = c.in_ok-read.read in
+    let rules = rules_of options read.keys.items in
+    let first = read.first.events in
+    run_asks c.args.task read.first.conf read.file.items (GoesSome rules options.events first) (GoesAll rules options.events first) (g.O.Write.contents c.args.output.now)
+    (g.O.Write.contents c.run_drive.new.output) c.run_drive.result c.run_drive.ensures.err (order_files c.args.task.image.now options)
+    (asked c.args.files.now) (asked c.read_inputs.new.files) c.in_ok-read.ensures.asks

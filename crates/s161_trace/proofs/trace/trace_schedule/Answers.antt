@@ -5,8 +5,8 @@ use Rattle.s161_base.specs.Known.{OfText}
 use Rattle.s161_base.specs.Listed.{ListsFor}
 use Rattle.s161_base.specs.Samples.{image_file}
 use Rattle.s161_base.specs.Streams.{streams}
-use Rattle.s161_trace.specs.Traces.{IsTraceFault}
-use Rattle.s161_trace.specs.helpers.Scheduled.{MakesAll, MakesSome}
+use Rattle.s161_trace.specs.Traces.{IsTraceFault, MakesSome}
+use Rattle.s161_trace.specs.helpers.Scheduled.{MakesAll}
 use Rattle.s161_trace.proofs.Asking.{run_asks, run_before}
 use Rattle.s161_trace.proofs.Finishing.{ends_so, schedule_bad, schedule_early, schedule_ok}
 use Rattle.s161_trace.proofs.trace.trace_schedule.Goals as goal
