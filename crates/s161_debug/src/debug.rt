@@ -17,15 +17,17 @@ use s161_command::DebugTask;
 use std::alloc::Global;
 use std::io::{Read, Write};
 
-/// Reads the image and then the file of the events, or of the keys of the driven run that chooses
-/// them, boots the image, and does the lines of the input, one after the other, until it ends or a
-/// line is `quit`. What a line prints is written and flushed before a byte of the next one is read; and
-/// where that is an error that is about what was typed, so is a note on standard error.
+/// Reads the image and then the file of the events, or the files of the order that chooses them, boots
+/// the image, and does the lines of the input, one after the other, until it ends or a line is `quit`.
+/// What a line prints is written and flushed before a byte of the next one is read; and where that is an
+/// error that is about what was typed, so is a note on standard error.
 ///
 /// The events are those of a log, where the file's first line that is no comment begins with
-/// `m161 `; else of a schedule. The machine is the one that is given; what isn't given of it is as
-/// that text says: a log in its machine line and its first line, a schedule in its machine line. A
-/// log that names another machine, or another image, is a fault.
+/// `m161 `; else of a schedule. With an order all of those of the file of `--after`, if it is given, come
+/// first, whether they are refused or not; behind them the order chooses, where each was made and the
+/// machine is still on. The machine is the one that is given; what isn't given of it is as that text says:
+/// a log in its machine line and its first line, a schedule in its machine line. A log that names another
+/// machine, or another image, is a fault.
 ///
 /// # Errors
 /// The first fault. What was written stays.

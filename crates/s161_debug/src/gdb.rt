@@ -39,8 +39,8 @@ fn told_as<'a>(fault: ServerFault<AllocError>) -> Fault<'a>
     }
 }
 
-/// Reads the image and then the file of the events, or of the keys of the driven run that chooses
-/// them, and boots the image, all as `debug` does; then answers the packets of GDB's remote protocol
+/// Reads the image and then the file of the events, or the files of the order that chooses them, and
+/// boots the image, all as `debug` does; then answers the packets of GDB's remote protocol
 /// that the input has, until it ends or a packet ends the session. An answer is written and flushed
 /// before the next byte is read. The run is that of the task, whatever the packets are.
 ///

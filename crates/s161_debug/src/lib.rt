@@ -1,5 +1,5 @@
 //! The command that debugs a machine, and answers each line of its input as it comes: commands of a
-//! session over the events of a schedule, a log or a driven run; and the program's own lines.
+//! session over the events of a schedule, a log or an order; and the program's own lines.
 //!
 //! ```text
 //! help         prints a line for each command

@@ -33,9 +33,8 @@ use std::io::{Read, Write};
 
 /// Reads the image, and the schedule or the log from the input, or with an order the text of the events that
 /// come first and the keys; boots the image, and makes the text's events, and with an order those that it
-/// chooses behind them. The lines of the events that the task asks
-/// for are written in pieces of whole lines, at most 65,536 bytes each, as the run goes on; the last
-/// piece ends with why it stopped.
+/// chooses behind them. The lines of the events that the task asks for are written in pieces of whole lines,
+/// at most 65,536 bytes each, as the run goes on; the last piece ends with why it stopped.
 ///
 /// # Errors
 /// The first fault. What was written stays.
