@@ -16,7 +16,7 @@ returns-clause-ok c =
     let given = given_of c.args.inputs.now in
     let start = c.args.start.now in
     let rules = c.in_ok-policy.policy in
-    let begun = c.in_ok-begun.begun' in
+    let begun = c.in_ok-begun.begun in
     let same = c.in_ok-begun.ensures in
     let cursor : c.new-cursor.result ≡ cursor_at rules begun.core.value.state =
     c.new-cursor.ensures ∙ ap (λ (k : CoreValue). cursor_at rules k.state) c.deref.ensures.value in
