@@ -1,4 +1,4 @@
 mod Sighting
 mod Counting
 mod Telling
-mod Watching
+pub mod Watching

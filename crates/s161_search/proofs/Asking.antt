@@ -4,7 +4,6 @@ use Rattle.m161_audit.specs.declared.finding.AuditError.{AuditError}
 use Rattle.m161_audit.specs.declared.finding.AuditError.TheVariants as audit
 use Rattle.s161_base.proofs.Asking.{IsNoFile, asks_both, asks_none, boot_is_none, file_unread, refused}
 use Rattle.s161_base.specs.Asked.{Asks, AsksUntil, image_files, option_files}
-use Rattle.s161_run.specs.Driven.{order_files}
 use Rattle.s161_base.specs.declared.fault.Fault.{Fault}
 use Rattle.s161_base.specs.declared.fault.Fault.TheVariants.{After, Conf, File, Image, Input, Log, LogImage, LogMachine, Memory, Never, Output, Schedule, Source, Threads, Touches, Watch, Watches, Word}
 use Rattle.s161_command.specs.declared.task.SearchTask.{SearchTask}
@@ -22,9 +21,9 @@ pub asks_all : (task : SearchTask) (a b c d e f : Option (List (List ℕ))) → 
 asks_all task a b c d e f image after keys watches output =
     let last = asks_both (option_files task.output) [] e f f output (asks_none f) in
     let more = asks_both (option_files task.watches) (flat_map option_files (task.output ∷ [])) d e f watches last in
-    let options = asks_both (option_files task.drive.after) (option_files task.drive.keys) b c d after keys in
-    let order = asks_both (image_files task.image.now) (option_files task.drive.after ++ option_files task.drive.keys) a b d image options in
-    asks_both (order_files task.image.now task.drive) (flat_map option_files (task.watches ∷ task.output ∷ [])) a d f order more
+    let typed = asks_both (option_files task.drive.keys) (flat_map option_files (task.watches ∷ task.output ∷ [])) c d f keys more in
+    let options = asks_both (option_files task.drive.after) (flat_map option_files (task.drive.keys ∷ task.watches ∷ task.output ∷ [])) b c f after typed in
+    asks_both (image_files task.image.now) (flat_map option_files (task.drive.after ∷ task.drive.keys ∷ task.watches ∷ task.output ∷ [])) a b f image options
 
 -- a line of the watches
 pub line_is_none : (text : Option (List ℕ)) (fault : Fault) → IsFaultIn text fault → IsNoFile fault

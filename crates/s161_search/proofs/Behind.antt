@@ -1,4 +1,4 @@
-use Rattle.std.proofs.Common.{◌≡◌, ◌∙◌, refl, sym, ap, subst, ℕ, suc, ◌+◌, ◌-◌, ◌≤◌, Bool, true, false, List, [], ◌∷◌, ◌++◌, length, take, drop, take-append-drop, Option, None, Some, arith}
+use Rattle.std.proofs.Common.{◌≡◌, ◌∙◌, refl, sym, ap, subst, ℕ, zero, suc, ◌+◌, ◌-◌, ◌<◌, ◌≤◌, Bool, true, false, List, [], ◌∷◌, ◌++◌, append_assoc, get_or, length, take, drop, take-append-drop, Option, None, Some, arith}
 use Rattle.std.specs.Prelude.{◌==◌, if◌then◌else◌, nat_lt}
 use Rattle.std.proofs.lemmas.Bool.Decides.{nat_tests}
 use Rattle.m161_judge.specs.Begun.{keys_in}
@@ -74,3 +74,18 @@ keys_append [] ys = refl
 keys_append (Step p ∷ xs) ys = keys_append xs ys
 keys_append (Key byte ∷ xs) ys = ap (λ ks. byte ∷ ks) (keys_append xs ys)
 keys_append (Done ∷ xs) ys = keys_append xs ys
+
+pub keys_more : (events : List Event) (i : ℕ) (d : Event) → i < length events →
+    keys_in (take (suc i) events) ≡ keys_in (take i events) ++ keys_in (get_or events i d ∷ [])
+keys_more [] i d there = absurd (let bad : ⊥ = omega (arith, there) in bad)
+keys_more (e ∷ es) zero d there = refl
+keys_more (e ∷ es) (suc i) d there =
+    keys_append (e ∷ []) (take (suc i) es) ∙ ap (λ ks. keys_in (e ∷ []) ++ ks) (keys_more es i d (omega (arith, there)))
+    ∙ sym (append_assoc (keys_in (e ∷ [])) (keys_in (take i es)) (keys_in (get_or es i d ∷ [])))
+    ∙ ap (λ ks. ks ++ keys_in (get_or es i d ∷ [])) (sym (keys_append (e ∷ []) (take i es)))
+
+pub keys_pushed : (events : List Event) (i : ℕ) (d : Event) (old new : List ℕ) → i < length events → old ≡ keys_in (take i events) →
+    new ≡ old ++ keys_in (get_or events i d ∷ []) → new ≡ keys_in (take (i + 1) events)
+keys_pushed events i d old new there old_is new_is =
+    let next : suc i ≡ i + 1 = omega arith in
+    new_is ∙ ap (λ ks. ks ++ keys_in (get_or events i d ∷ [])) old_is ∙ sym (keys_more events i d there) ∙ ap (λ n. keys_in (take n events)) next

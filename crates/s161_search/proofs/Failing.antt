@@ -29,11 +29,11 @@ use Rattle.s161_search.specs.Given.{Given, IsRead, criteria_of}
 use Rattle.s161_search.specs.Never.{AreAddresses, symbols_in}
 use Rattle.s161_search.specs.declared.inputs.Inputs.{Inputs}
 use Rattle.s161_search.specs.helpers.Inputs.{given_of}
-use Rattle.s161_search.specs.helpers.Begun.{IsBareFault}
+use Rattle.s161_search.specs.helpers.Begun.{IsBareFault, IsFirstFault}
+use Rattle.s161_search.specs.helpers.Delayed.{IsNoMemory}
 use Rattle.s161_search.specs.helpers.Never.{HasNever, IsNeverFault, IsNoAddress, IsWordFault, PrintsFor, with_addresses}
 use Rattle.s161_search.specs.Searches.{IsSearchFault, IsSearched, Prints}
 use Rattle.s161_search.specs.Runs.{IsRunFault}
-
 
 -- Why a search ends early.
 
@@ -172,6 +172,10 @@ bare_is_never task words given LogImage h = absurd h
 bare_is_never task words given Output h = absurd h
 bare_is_never task words given (Source e) h = absurd h
 
+-- memory was refused
+pub memory_is_run : (given : Given) (fault : Fault) → IsNoMemory fault → IsRunFault given fault
+memory_is_run given fault h = subst (IsRunFault given) (sym h) tt
+
 -- the image can be booted
 pub boots_none : (given : Given) (s : State) (fault : Option BootError) → boot_fault given.file given.conf ≡ fault →
     BootsState given.file given.conf fault (Ok s) → boot_fault given.file given.conf ≡ None
@@ -189,7 +193,7 @@ refused_first given s k refusal.KeyFull good boots h = (good, record { booted = 
 refused_first given s k refusal.NothingSent good boots h = (good, record { booted = s; boots = boots; refuses = h; not_memory = λ same. absurd (cc) })
 
 pub first_refused : (given : Given) (s : State) (fault : Fault) → ((j : ℕ) → AreGood given.conf.ram given.watches j) → BootsIn given.file given.conf s →
-    (fault ≡ Memory) ⊎ ((k : ℕ) × (why : Refusal) × RefusesFirst s given.first k why × (fault ≡ fault_of_first k why)) → IsRunFault given fault
+    IsFirstFault given s fault → IsRunFault given fault
 first_refused given s fault good boots (inl is) = subst (IsRunFault given) (sym is) tt
 first_refused given s fault good boots (inr (k, why, h, is)) = subst (IsRunFault given) (sym is) (refused_first given s k why good boots h)
 

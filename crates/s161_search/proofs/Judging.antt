@@ -1,4 +1,4 @@
-use Rattle.std.proofs.Common.{◌≡◌, ◌⊎◌, ◌∙◌, ℕ, ◌<◌, arith, Bool, true, false, List, [], ◌∷◌, ◌++◌, length, take, Option, None, Some, Ok, Err, ap, inl, inr, refl, sym, subst}
+use Rattle.std.proofs.Common.{◌≡◌, ◌⊎◌, ◌∙◌, ℕ, ◌<◌, arith, Bool, true, false, List, [], ◌∷◌, ◌++◌, length, take, drop, Option, None, Some, Ok, Err, ap, inl, inr, refl, sym, subst}
 use Rattle.std.specs.Prelude.{◌==◌, Result, IfErr, IfOk, option_map}
 use Rattle.std.specs.List.{range_with_len}
 use Rattle.std.proofs.lemmas.Bool.{eqb-true}
@@ -50,7 +50,7 @@ use Rattle.s161_search.specs.helpers.Begun.{BeginsAt, HasKindFrom}
 use Rattle.s161_search.specs.helpers.Delayed.{BeginsBehind, IsRightFrom, IsRunFrom, IsSeedRightFrom, IsSeedWrongFrom, IsTested, IsWrongFrom}
 use Rattle.s161_search.specs.helpers.Tried.{ArePrintedWith, IsTried}
 use Rattle.s161_search.specs.helpers.Telling.{Begins, TellsRun}
-use Rattle.s161_search.proofs.Behind.{parts_of, take_needed}
+use Rattle.s161_search.proofs.Behind.{are_shortened, cut_parts, parts_of, take_needed}
 use Rattle.s161_search.proofs.Booting.{booted_as_one}
 use Rattle.s161_search.proofs.Telling.{run_told}
 
@@ -173,6 +173,35 @@ pub short_as : (given : Given) (s : State) (first fs es : List Event) (k r : ℕ
 short_as given s first fs es k r begins kind h =
     subst (λ n. Shortens (λ kind. n == kind) (HasKind given first) es fs) kind
     (shortens_by (λ kind. k == kind) (HasKindFrom s given first) (HasKind given first) es fs (λ xs verdict has. has begins) h)
+
+-- the whole of what is printed, as it is made
+
+pub judged_printed : (task : SearchTask) (given : Given) (s : State) (events cut first behind left : List Event) (judged last : Judged) (k : ℕ) (printed : Printed) →
+    ((goal : Criteria) (s : State) (xs : List Event) (j : Judged) → CutKeepsVerdict goal s xs j) →
+    ((goal : Criteria) (s : State) (es : List Event) → IsOneVerdict goal s es) → BeginsAt given s → is_whole task.whole (verdicts.Run judged.verdict) ≡ false →
+    IsJudgedAt given events (Some judged) → cut ≡ take judged.events events → first ≡ take (length given.first) cut → behind ≡ drop (length given.first) cut →
+    k ≡ rank judged.verdict → Shortens (λ kind. k == kind) (HasKindFrom s given first) behind left →
+    (left ≡ behind) ⊎ AreNeeded (λ kind. k == kind) (HasKindFrom s given first) left → printed.events.items ≡ first ++ left →
+    printed.verdict ≡ verdicts.Run last.verdict → IsJudgedAt given printed.events.items (Some last) → (cut_is : Bool) →
+    ArePrintedWith cut_is task given events (told_of judged) printed
+judged_printed task given s events cut first behind left judged last k printed keeps one begins part h cut_is first_is behind_is kind short taken joined verdict again =
+    let n = length given.first in
+    let needed = take judged.events events in
+    let shorter = short_as given s first left behind k (rank judged.verdict) begins kind short in
+    left_printed task given events first behind left judged last printed keeps one part
+    (are_shortened n task given (verdicts.Run judged.verdict) cut needed first behind left printed.events.items cut_is first_is behind_is joined shorter)
+    verdict h (cut_parts n cut needed first behind cut_is first_is behind_is) joined
+    (left_as given s first left behind k (rank judged.verdict) begins kind taken) again
+
+pub judged_has_one : (given : Given) (s : State) (events cut first behind left all : List Event) (judged : Judged) (k : ℕ) →
+    ((goal : Criteria) (s : State) (xs : List Event) (j : Judged) → CutKeepsVerdict goal s xs j) →
+    ((goal : Criteria) (s : State) (es : List Event) → IsOneVerdict goal s es) → BeginsAt given s → IsJudgedAt given events (Some judged) →
+    cut ≡ take judged.events events → first ≡ take (length given.first) cut → behind ≡ drop (length given.first) cut → k ≡ rank judged.verdict →
+    (left ≡ behind) ⊎ AreNeeded (λ kind. k == kind) (HasKindFrom s given first) left → all ≡ first ++ left → IsJudgedAt given all None → ⊥
+judged_has_one given s events cut first behind left all judged k keeps one begins h cut_is first_is behind_is kind taken joined again =
+    left_has_one given events first behind left judged keeps one h
+    (cut_parts (length given.first) cut (take judged.events events) first behind cut_is first_is behind_is)
+    (left_as given s first left behind k (rank judged.verdict) begins kind taken) (subst (λ es. IsJudgedAt given es None) joined again)
 
 -- what became of a run
 

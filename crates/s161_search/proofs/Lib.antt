@@ -12,3 +12,4 @@ pub mod Exploring
 mod Behind
 mod Starting
 mod Noting
+mod Storing

@@ -1,7 +1,8 @@
 use Rattle.std.proofs.Common.{◌≡◌, ◌∙◌, ap, sym, subst, ℕ, zero, suc, ◌+◌, ◌-◌, ◌≤◌, List, [], ◌++◌, append_assoc, append-nil, length, arith}
 use Rattle.std.proofs.lemmas.List.{length-append, length-map, map-append}
-use Rattle.std.specs.Prelude.{slice_get}
+use Rattle.std.specs.Prelude.{Err, Ok, OnOk, Result, slice_get}
 use Rattle.m161_delays.specs.Lists.{AgreeBelow, times}
+use Rattle.m161_delays.specs.Runs.{StandsAt}
 use Rattle.m161_drive.specs.declared.cursor.Cursor.{Cursor}
 use Rattle.m161_drive.specs.declared.orders.OrderState.TheVariants.{ByDelays}
 use Rattle.m161_drive.specs.declared.turns.Turns.{Turns}
@@ -26,6 +27,7 @@ use Rattle.m161_places.specs.Going.{Passes, PassesNoting}
 use Rattle.m161_places.specs.Laws.{with_delays}
 use Rattle.m161_places.proofs.Exchanging.{go_alike}
 use Rattle.m161_places.proofs.Moving.{other_order}
+use Rattle.s161_base.specs.declared.fault.Fault.{Fault}
 use Rattle.s161_command.specs.declared.task.SearchTask.{SearchTask}
 use Rattle.s161_run.specs.Driven.{rules_of}
 use Rattle.s161_search.specs.Given.{Given, criteria_of}
@@ -209,3 +211,10 @@ pub kept_again : (s : State) (goal : Criteria) (events others : List Event) (ste
     IsKeptOf goal s events steps → IsKeptOf goal s others same
 kept_again s goal events others steps same events_are steps_are h =
     subst (λ m. IsKeptOf goal s others m) (sym steps_are) (subst (λ es. IsKeptOf goal s es steps) (sym events_are) h)
+
+-- back at the start, a point is one of each list's run
+pub stands_again : {A : Type 0} (result : Result A Fault) (start : Start) (task : SearchTask) (given : Given) (steps : ℕ) (numbers : List ℕ) (place : ℕ) (point : RunPoint) →
+    OnOk result ((others : List ℕ) → IsPointOf start task given steps others point) →
+    OnOk result (StandsAt (IsPointOf start task given steps) numbers place point)
+stands_again (Ok x) start task given steps numbers place point h = λ others agree. h others
+stands_again (Err fault) start task given steps numbers place point h = tt

@@ -159,7 +159,7 @@ went rules n s u t events Stuck first more driven makes accepted drives taken = 
 went rules n s u t events (Refused k refusal) first more driven makes accepted drives taken = absurd (accepted k refusal refl)
 
 -- its watches are good
-booted_good : (given : Given) (s : State) → IsBootState given.file given.conf s → ((k : ℕ) → AreGood s.conf.ram given.watches k) → (k : ℕ) → AreGood given.conf.ram given.watches k
+pub booted_good : (given : Given) (s : State) → IsBootState given.file given.conf s → ((k : ℕ) → AreGood s.conf.ram given.watches k) → (k : ℕ) → AreGood given.conf.ram given.watches k
 booted_good given s boots good =
     let conf : s.conf ≡ given.conf = ap (λ (x : State). x.conf) boots.state_is ∙ boots.conf_is in
     subst (λ (c : ConfValue). (k : ℕ) → AreGood c.ram given.watches k) conf good

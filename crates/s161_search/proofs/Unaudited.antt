@@ -14,7 +14,7 @@ use Rattle.m161_audit.specs.WatchText.{AreWatchLines}
 use Rattle.m161_text.specs.Lines.{FirstBad}
 use Rattle.s161_base.proofs.Failing.{HasFault, boot_fails}
 use Rattle.s161_base.specs.declared.fault.Fault.{Fault}
-use Rattle.s161_base.specs.declared.fault.Fault.TheVariants.{Conf, File, Image, Input, Log, LogImage, LogMachine, Memory, Never, Output, Schedule, Source, Threads, Touches, Watch, Watches, Word}
+use Rattle.s161_base.specs.declared.fault.Fault.TheVariants.{After, Conf, File, Image, Input, Log, LogImage, LogMachine, Memory, Never, Output, Schedule, Source, Threads, Touches, Watch, Watches, Word}
 use Rattle.s161_search.specs.Audits.{fault_of_audit, IsWatchesFault}
 
 -- Why an audit ends early: `P` is what is said of its fault.
@@ -30,6 +30,7 @@ watches_failed P text (Log n) line memory h = absurd h
 watches_failed P text (Watch k) line memory h = absurd h
 watches_failed P text (Never word) line memory h = absurd h
 watches_failed P text (Touches word) line memory h = absurd h
+watches_failed P text (After k why) line memory h = absurd h
 watches_failed P text (Threads cause) line memory h = absurd h
 watches_failed P text Conf line memory h = absurd h
 watches_failed P text (Image e) line memory h = absurd h

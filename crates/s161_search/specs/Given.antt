@@ -8,18 +8,19 @@ use Rattle.m161_machine.specs.declared.conf.Conf.{Conf}
 use Rattle.m161_machine.specs.declared.event.Event.{Event}
 use Rattle.m161_text.specs.Lines.{FirstBad}
 use Rattle.s161_command.specs.declared.task.SearchTask.{SearchTask}
-use Rattle.s161_base.specs.Asked.{option_files}
+use Rattle.s161_base.specs.Asked.{image_files, option_files}
 use Rattle.s161_base.specs.Known.{OfKnown, OfText}
 use Rattle.s161_search.specs.Audits.{OfWatches}
-use Rattle.s161_run.specs.Driven.{AreInputs, order_files}
+use Rattle.s161_run.specs.Driven.{AreInputs}
 
 -- What a search reads.
 
--- its files, in the order in which they are read: those of a run by an order, and of the options that are
--- given those of the watches and the output
+-- its files, in the order in which they are read: the image's, and of the options that are given those of
+-- the events that come first, the keys, the watches and the output
 abbrev pub search_files : SearchTask → List (List ℕ)
 search_files task =
-    order_files task.image.now task.drive ++ flat_map option_files (task.watches ∷ task.output ∷ [])
+    image_files task.image.now
+    ++ flat_map option_files (task.drive.after ∷ task.drive.keys ∷ task.watches ∷ task.output ∷ [])
 
 -- the image, the events that come first, the machine, the keys that an order types, and by what runs are
 -- judged: all keys are those of the first events and of the order

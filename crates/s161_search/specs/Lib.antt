@@ -7,6 +7,7 @@ pub mod Notes
 pub mod Seeds
 pub mod Delays
 pub mod Texts
+pub mod Unstored
 pub mod Searches
 pub mod Explores
 pub mod helpers

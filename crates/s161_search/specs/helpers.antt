@@ -8,4 +8,5 @@ pub mod Telling
 pub mod Delayed
 pub mod Offers
 pub mod Points
+pub mod Storing
 pub mod Explored

@@ -139,6 +139,7 @@ fn make_orders<'a, R: Threads + Sync>(
 }
 
 // Makes the runs of the seeds.
+#[tactic(auto, using(crate::proofs::Failing::memory_is_run))]
 fn by_seeds<'a, R: Threads + Sync>(
     rt: &R,
     alloc: Global,
@@ -213,6 +214,7 @@ fn turns_of(policy: Order) -> u32
 }
 
 // Makes the runs of the lists of a class.
+#[tactic(auto, using(crate::proofs::Failing::memory_is_run))]
 fn by_delays<'a, R: Threads + Sync>(
     rt: &R,
     alloc: Global,

@@ -58,8 +58,8 @@ fn with_seed(seed: u64, order: Order) -> Order
     }
 }
 
-// The order of a run.
-fn order_at(order: Order, k: u32) -> Order
+/// The order of a run.
+pub(crate) fn order_at(order: Order, k: u32) -> Order
     ensures { result ≡ with_seed (seed_at order k) order }
 {
     with_seed(seed_at(order, k), order)

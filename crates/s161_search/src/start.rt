@@ -1,21 +1,17 @@
 //! Where the runs of a search begin.
 
-ghost use Rattle.std.specs.Prelude.{◌≡◌, ◌⊎◌, [], ℕ, IfErr, IfOk, List, OnOk};
+ghost use Rattle.std.specs.Prelude.{◌≡◌, [], IfErr, IfOk, OnOk};
 ghost use Rattle.m161_judge.specs.Begun.{IsFirstOf};
 ghost use Rattle.m161_judge.specs.Memory.{IsKeptOf};
-ghost use Rattle.m161_machine.specs.declared.event.Refusal.{Refusal};
 ghost use Rattle.m161_machine.specs.State.{State};
-ghost use Rattle.s161_base.specs.Faults.{fault_of_first as first_fault};
-ghost use Rattle.s161_base.specs.declared.fault.Fault.TheVariants as faults;
-ghost use Rattle.s161_run.specs.Behind.{RefusesFirst};
 ghost use Rattle.s161_search.specs.Given.{AreAllKeys, criteria_of};
 ghost use Rattle.s161_search.specs.Runs.{IsRunFault};
-ghost use Rattle.s161_search.specs.helpers.Begun.{BeginsAt, IsBareFault, IsStarted, MakesFirst};
+ghost use Rattle.s161_search.specs.helpers.Begun.{BeginsAt, IsBareFault, IsFirstFault, IsStarted, MakesFirst};
 ghost use Rattle.s161_search.specs.helpers.Inputs.{given_of};
 
 use crate::audit::fault_of_audit;
 use crate::inputs::Inputs;
-use crate::points::{copy_events, keep_on, start_core};
+use crate::points::keep_on;
 use m161::{Console, Tlb};
 use m161_judge::{Booted, Event, First, StepMemory};
 use m161_machine::Core;
@@ -60,14 +56,38 @@ fn make_first<'a>(
 ) -> Result<(), Fault<'a>>
     requires { events.old.items ≡ [] }
     ensures ok { OnOk result (MakesFirst (given_of inputs.now) core.old.state core.new.state events.new.items) }
-    ensures err { IfErr result (λ fault. (fault ≡ faults.Memory)
-        ⊎ ((k : ℕ) × (why : Refusal) × RefusesFirst core.old.state (given_of inputs.now).first k why
-        × (fault ≡ first_fault k why))) }
+    ensures err { IfErr result (IsFirstFault (given_of inputs.now) core.old.state) }
 {
-    match make_events(core, &inputs.first.events, events)? {
-        RunStop::Refused(k, refusal) => Err(fault_of_first(k as u64, refusal)),
-        RunStop::Off | RunStop::Conflict(_) | RunStop::End | RunStop::Stuck => Ok(()),
+    let stop = make_events(core, &inputs.first.events, events)?;
+    if let RunStop::Refused(k, refusal) = stop {
+        return Err(fault_of_first(k as u64, refusal));
     }
+    Ok(())
+}
+
+// A machine in a box.
+fn boxed(alloc: Global, core: Core<Tlb, Console>) -> Result<Box<Core<Tlb, Console>>, AllocError>
+    ensures { IfOk result (λ b. b.value ≡ core) }
+{
+    Ok(Box::new(alloc, core)?)
+}
+
+// The machine behind the events that come first, in a box; it notes those that are made.
+// For LLVM: a stack frame of its own.
+#[inline(never)]
+fn first_core<'a>(
+    alloc: Global,
+    booted: &Booted<Tlb, Console>,
+    inputs: &Inputs,
+    events: &mut Vec<Event>,
+) -> Result<Box<Core<Tlb, Console>>, Fault<'a>>
+    requires { events.old.items ≡ [] }
+    ensures ok { IfOk result (λ core. MakesFirst (given_of inputs.now) booted.now core.value.state events.new.items) }
+    ensures err { IfErr result (IsFirstFault (given_of inputs.now) booted.now) }
+{
+    let mut core = booted.copy_core(alloc)?;
+    make_first(&mut core, inputs, events)?;
+    Ok(boxed(alloc, core)?)
 }
 
 // What is kept of events that come first, which are all accepted.
@@ -91,6 +111,7 @@ fn keep_first(
 ///
 /// # Errors
 /// A watch is bad; or the machine refused one of the events; or memory was refused.
+#[tactic(auto, using(crate::proofs::Failing::bare_is_run))]
 pub(crate) fn make_start<'a>(
     alloc: Global,
     booted: &Booted<Tlb, Console>,
@@ -102,9 +123,8 @@ pub(crate) fn make_start<'a>(
     ensures err { IfErr result (IsRunFault (given_of inputs.now)) }
 {
     let mut steps = start_steps(alloc, booted, inputs)?;
-    let mut core = start_core(alloc, booted)?;
     let mut events = Vec::new(alloc);
-    make_first(&mut core, inputs, &mut events)?;
+    let core = first_core(alloc, booted, inputs, &mut events)?;
     keep_on(&mut steps, &events, inputs)?;
     let first = keep_first(alloc, booted, inputs, &events)?;
     Ok(Start {

@@ -1,4 +1,4 @@
-use Rattle.std.specs.Prelude.{◌≡◌, ℕ, List, Option, Ok}
+use Rattle.std.specs.Prelude.{◌≡◌, ◌⊎◌, ℕ, List, Option, Ok}
 use Rattle.m161_judge.specs.declared.verdict.Judged.{Judged}
 use Rattle.m161_judge.specs.Begun.{IsFirstOf}
 use Rattle.m161_judge.specs.Judge.{BootsState}
@@ -9,7 +9,9 @@ use Rattle.m161_machine.specs.State.{State}
 use Rattle.m161_shorten.specs.declared.judged.Judgement.{Judgement}
 use Rattle.m161_machine.specs.declared.event.Entry.{Entry}
 use Rattle.s161_run.specs.declared.events.RunStop.{RunStop}
-use Rattle.s161_run.specs.Behind.{WasAccepted}
+use Rattle.m161_machine.specs.declared.event.Refusal.{Refusal}
+use Rattle.s161_base.specs.Faults.{fault_of_first}
+use Rattle.s161_run.specs.Behind.{RefusesFirst, WasAccepted}
 use Rattle.s161_run.specs.Runs.{MakesEvents}
 use Rattle.s161_search.specs.declared.start.Start.{Start}
 use Rattle.s161_base.specs.declared.fault.Fault.{Fault}
@@ -47,6 +49,12 @@ pub record MakesFirst (given : Given) (s u : State) (events : List Event) : Type
   pub makes : MakesEvents s given.first stop entries u
   pub accepted : WasAccepted stop
   pub events_are : events ≡ events_of entries
+
+-- one of them was refused; or memory was
+abbrev pub IsFirstFault : Given → State → Fault → Type 0
+IsFirstFault given s fault =
+    (fault ≡ Memory)
+    ⊎ ((k : ℕ) × (why : Refusal) × RefusesFirst s given.first k why × (fault ≡ fault_of_first k why))
 
 -- from boot, they led to this start, with what is kept of them
 pub record IsStarted (given : Given) (s : State) (start : Start) : Type 0 where

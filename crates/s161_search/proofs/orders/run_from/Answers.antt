@@ -15,7 +15,7 @@ returns-clause-ok c =
     let start = c.args.start.now in
     let point = c.args.point.now in
     let rules = c.in_ok-policy.policy in
-    let begun = c.in_ok-begun.begun' in
+    let begun = c.in_ok-begun.begun in
     let same = c.in_ok-begun.ensures in
     IfOk-weaker c.judge_begun.result _ _
     (λ run h at start_of.

@@ -16,10 +16,10 @@ returns-clause-ok c =
     let given = given_of c.args.inputs.now in
     let start = c.args.start.now in
     let rules = c.in_ok-policy.policy in
-    let begun = c.in_ok-begun.begun' in
+    let begun = c.in_ok-begun.begun in
     let same = c.in_ok-begun.ensures in
     let cursor : c.new-cursor.result ≡ cursor_at rules begun.core.value.state =
-    c.new-cursor.ensures ∙ ap (λ (k : CoreValue). cursor_at rules k.state) c.deref.ensures.value in
+    c.new-cursor.ensures ∙ ap (λ (k : CoreValue). cursor_at rules k.state) c.deref.ensures in
     IfOk-weaker c.judge_begun.result _ _
     (λ run h start_of.
     let s = start_of.0 in

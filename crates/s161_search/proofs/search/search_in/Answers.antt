@@ -1,4 +1,5 @@
-use Rattle.std.proofs.Common.{map}
+use Rattle.std.proofs.Common.{map, subst, sym}
+use Rattle.s161_search.specs.Given.{AreAllKeys}
 use Rattle.s161_search.specs.helpers.Inputs.{given_of}
 use Rattle.s161_search.proofs.Failing.{failed_for, printed_for}
 use Rattle.s161_search.proofs.search.search_in.Goals as goal
@@ -12,3 +13,7 @@ pub returns-clause-fault : goal.returns-clause-fault
 returns-clause-fault g c =
     failed_for c.args.task (map (λ word. word.now) c.args.never.now) (given_of c.args.inputs) c.in_ok-inputs.inputs c.make_runs.result
     c.in_ok-inputs.ensures.ok c.make_runs.ensures.fault
+
+-- all keys are still those
+pub make_runs-requires-clause-keys : goal.make_runs-requires-clause-keys
+make_runs-requires-clause-keys c = subst AreAllKeys (sym c.in_ok-inputs.ensures.ok.0) c.requires.keys

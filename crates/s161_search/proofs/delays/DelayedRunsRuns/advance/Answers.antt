@@ -1,10 +1,11 @@
 use Rattle.std.proofs.Common.{◌≡◌, ◌+◌, ◌-◌, length, refl, subst, arith}
 use Rattle.std.specs.Prelude.{IfSome, slice_get}
+use Rattle.m161_order.specs.Delays.{delays_of}
 use Rattle.m161_places.specs.Going.{PassesNoting}
 use Rattle.s161_search.specs.Runs.{most_of}
 use Rattle.s161_search.specs.helpers.Inputs.{given_of}
 use Rattle.s161_search.specs.declared.points.RunPoint.{RunPoint}
-use Rattle.s161_search.proofs.Pointing.{gone_on}
+use Rattle.s161_search.proofs.Pointing.{gone_on, stands_again}
 use Rattle.s161_search.proofs.delays.DelayedRunsRuns.advance.Goals as goal
 
 pub returns-in-Some-2-clause-ok : goal.returns-in-Some-2-clause-ok
@@ -31,3 +32,15 @@ returns-in-Some-2-clause-ok c = λ others agree.
     gone_on self.start.now self.task given self.turns c.args.place c.saturating_sub-left.result c.saturating_sub-more.result c.in-Some-2.made
     c.args.delays.now rules old new c.in-Some.cursor c.in_ok-policy.ensures.ok c.in-Some.ensures went left c.saturating_sub-more.ensures refl
     c.in_ok-made.ensures.kept others agree (c.requires others agree)
+
+pub returns-in_default-clause-ok : goal.returns-in_default-clause-ok
+returns-in_default-clause-ok c =
+    let self = c.args.self.now in
+    stands_again c.start_again.result self.start.now self.task (given_of self.inputs.now) self.turns (delays_of c.args.delays.now) c.args.place
+    c.start_again.new.point c.start_again.ensures.ok
+
+pub returns-in-None-clause-ok : goal.returns-in-None-clause-ok
+returns-in-None-clause-ok c =
+    let self = c.args.self.now in
+    stands_again c.start_again-in-None.result self.start.now self.task (given_of self.inputs.now) self.turns (delays_of c.args.delays.now) c.args.place
+    c.start_again-in-None.new.point c.start_again-in-None.ensures.ok

@@ -1,6 +1,7 @@
 use Rattle.std.proofs.Common.{◌∙◌, ◌++◌, ap}
 use Rattle.std.specs.Prelude.{slice_get}
 use Rattle.m161_drive.specs.Choice.{cursor_at}
+use Rattle.m161_machine.specs.State.{CoreValue}
 use Rattle.m161_order.specs.declared.order.Order.TheVariants as order
 use Rattle.m161_order.specs.Delays.{delays_of}
 use Rattle.m161_places.specs.Laws.{with_delays}
@@ -20,7 +21,7 @@ returns-clause-ok c =
     let turns = c.args.self.now.turns in
     let n = most_of task (given_of c.args.self.now.inputs.now) in
     let policy = c.in_ok-policy.ensures.ok in
-    let state = c.in_ok-core.ensures in
+    let state = c.in_ok-core.ensures.state ∙ ap (λ (k : CoreValue). k.state) c.deref.ensures in
     c.in_ok-offers.ensures
     ∙ ap (λ xs. c.args.counts.now.items ++ xs)
     ((λ i. offers (c.most.ensures i) (policy i) (slice_get (policy i).keys) (cursor_at (policy i) (state i)) (state i))
