@@ -6,7 +6,7 @@ use Rattle.s161_base.proofs.Asking.{IsNoFile, asks_none, before_input, memory_is
 use Rattle.s161_base.specs.Asked.{AsksFor, IsBeforeInput}
 use Rattle.s161_base.specs.Streams.{Streams}
 use Rattle.s161_base.specs.declared.fault.Fault.{Fault}
-use Rattle.s161_base.specs.declared.fault.Fault.TheVariants.{Conf, File, Image, Input, Log, LogImage, LogMachine, Memory, Never, Output, Schedule, Source, Threads, Touches, Watch, Watches, Word}
+use Rattle.s161_base.specs.declared.fault.Fault.TheVariants.{After, Conf, File, Image, Input, Log, LogImage, LogMachine, Memory, Never, Output, Schedule, Source, Threads, Touches, Watch, Watches, Word}
 use Rattle.s161_command.specs.declared.task.ConsoleTask.{ConsoleTask}
 use Rattle.s161_command.specs.declared.task.DebugTask.{DebugTask}
 use Rattle.s161_command.specs.declared.task.GdbTask.{GdbTask}
@@ -55,6 +55,7 @@ assembly_is_none : (input : Option (List ℕ)) (fault : Fault) → IsAssemblyFau
 assembly_is_none input (File name why) h = absurd h
 assembly_is_none input Memory h = tt
 assembly_is_none input (Schedule n) h = tt
+assembly_is_none input (After k why) h = tt
 assembly_is_none input (Log n) h = tt
 assembly_is_none input LogMachine h = tt
 assembly_is_none input LogImage h = tt
@@ -83,6 +84,7 @@ pub listing_is_none : (file : List ℕ) (fault : Fault) → IsUnlisted file faul
 listing_is_none file (File name why) h = absurd h
 listing_is_none file Memory h = tt
 listing_is_none file (Schedule n) h = tt
+listing_is_none file (After k why) h = tt
 listing_is_none file (Log n) h = tt
 listing_is_none file LogMachine h = tt
 listing_is_none file LogImage h = tt

@@ -1,7 +1,7 @@
 use Rattle.std.proofs.Common.{◌≡◌, ℕ, List, Option, IfSome}
 use Rattle.s161_base.specs.Known.{IsText}
 use Rattle.s161_base.specs.declared.fault.Fault.{Fault}
-use Rattle.s161_base.specs.declared.fault.Fault.TheVariants.{Conf, File, Image, Input, Log, LogImage, LogMachine, Memory, Never, Output, Schedule, Source, Threads, Touches, Watch, Watches, Word}
+use Rattle.s161_base.specs.declared.fault.Fault.TheVariants.{After, Conf, File, Image, Input, Log, LogImage, LogMachine, Memory, Never, Output, Schedule, Source, Threads, Touches, Watch, Watches, Word}
 use Rattle.s161_texts.specs.Assemblies.{IsUnassembled}
 use Rattle.s161_work.specs.Assemblies.{IsAssemblyFault}
 
@@ -13,6 +13,7 @@ assembly_failed input source (Source e) whole utf8 h = (source, whole, (utf8, h)
 assembly_failed input source Memory whole utf8 h = tt
 assembly_failed input source (File name why) whole utf8 h = absurd h
 assembly_failed input source (Schedule n) whole utf8 h = absurd h
+assembly_failed input source (After k why) whole utf8 h = absurd h
 assembly_failed input source (Log n) whole utf8 h = absurd h
 assembly_failed input source LogMachine whole utf8 h = absurd h
 assembly_failed input source LogImage whole utf8 h = absurd h

@@ -43,9 +43,9 @@ IsTaskFault never (Run task) files input fault =
 IsTaskFault never (RunInThreads task) files input fault =
     IsThreadsFault task (image_file files task.run.image.now) fault
 IsTaskFault never (RunDriven task) files input fault =
-    IsDrivenFault task (image_file files task.run.image.now) fault
+    IsDrivenFault task files (image_file files task.run.image.now) fault
 IsTaskFault never (Schedule task) files input fault =
-    IsScheduledFault task (image_file files task.image.now) fault
+    IsScheduledFault task files (image_file files task.image.now) fault
 IsTaskFault never (Console task) files input fault = ⊥
 IsTaskFault never (Trace task) files input fault = ⊥
 IsTaskFault never (Debug task) files input fault = ⊥

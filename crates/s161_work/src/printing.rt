@@ -205,7 +205,7 @@ fn finish_driven<'a, F: FileSource>(
     ensures ok { IfOk result (λ done. OfRun task.entry.run.shown (IsDriven task.entry (F.known files.old)
         (image_file (F.known files.old) task.entry.run.image.now))
         done.text.items (string_bytes said.new) done.status) }
-    ensures fault { IfErr result (IsDrivenFault task.entry
+    ensures fault { IfErr result (IsDrivenFault task.entry (F.known files.old)
         (image_file (F.known files.old) task.entry.run.image.now)) }
     ensures asks { AsksFor (driven_files task.entry) result (F.asked files.old)
         (F.asked files.new) }
@@ -231,7 +231,7 @@ fn finish_schedule<'a, F: FileSource>(
     requires { order_fault task.drive.order ≡ None }
     ensures ok { IfOk result (λ done. WithZero (IsScheduled task.entry (F.known files.old)
         (image_file (F.known files.old) task.entry.image.now)) done.text.items done.status) }
-    ensures fault { IfErr result (IsScheduledFault task.entry
+    ensures fault { IfErr result (IsScheduledFault task.entry (F.known files.old)
         (image_file (F.known files.old) task.entry.image.now)) }
     ensures asks { AsksFor (schedule_files task.entry) result (F.asked files.old)
         (F.asked files.new) }
