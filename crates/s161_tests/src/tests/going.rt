@@ -92,12 +92,13 @@ fn answers_before_the_next_line(rt: HostRuntime) -> Result<(), Fail> {
     let image = file_at(rt.alloc(), ENTRY, &POWER_OFF)?;
     let words = ["s161", "debug", "image", "text"];
     let text = "end 1\n? Unknown\noff 0\n";
-    let errors_text = "s161: input (standard input can't be read)\n";
-    for &(lines, answers) in &[
-        ("", 0),
-        ("g 1\n", 6),
-        ("g 1\nzz\n", 16),
-        ("g 1\nzz\ng\n", 22),
+    let unread = "s161: input (standard input can't be read)\n";
+    let noted = "s161: note command (there is none of this name; help lists them)\ns161: input (standard input can't be read)\n";
+    for &(lines, answers, errors_text) in &[
+        ("", 0, unread),
+        ("g 1\n", 6, unread),
+        ("g 1\nzz\n", 16, noted),
+        ("g 1\nzz\ng\n", 22, noted),
     ] {
         let mut files = TwoFiles {
             image: &image,

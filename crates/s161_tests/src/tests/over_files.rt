@@ -324,7 +324,7 @@ static COMMANDS: [Case; 6] = [
             "? Unknown\n? BadArgument\n? BadProcessor\n",
             "off 1\nrefused 0 2 Off\nend 0\n",
         ],
-        errors: "",
+        errors: "s161: note command (there is none of this name; help lists them)\ns161: note r (a processor, and for one register its number, below 32)\n",
     },
     // dropped-entry
     Case {
@@ -334,7 +334,7 @@ static COMMANDS: [Case; 6] = [
         input: "l 5\ng\r\ng\nl 5\nl 0\ng\n",
         status: 0,
         output: &["? Unknown\noff 1\ns 0 off\n? BadArgument\nrefused 0 2 Off\n"],
-        errors: "",
+        errors: "s161: note command (there is none of this name; help lists them)\ns161: note l (how many entries, 1 to 1024)\n",
     },
     Case {
         words: &["s161", "debug", "image", "text"],
