@@ -16,4 +16,4 @@ returns-clause-fault g c =
 
 -- all keys are still those
 pub make_runs-requires-clause-keys : goal.make_runs-requires-clause-keys
-make_runs-requires-clause-keys g c = subst AreAllKeys (sym c.in_ok-inputs.ensures.ok.0) c.requires.keys
+make_runs-requires-clause-keys g c = λ κs outlive. subst AreAllKeys (sym c.in_ok-inputs.ensures.ok.0) c.requires.keys
