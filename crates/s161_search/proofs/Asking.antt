@@ -1,9 +1,9 @@
-use Rattle.std.proofs.Common.{◌≡◌, ◌⊎◌, ℕ, List, [], ◌∷◌, ◌++◌, Option, None, Some, Bor, inl, inr}
+use Rattle.std.proofs.Common.{ℕ, List, [], ◌∷◌, Option, None, Some}
 use Rattle.std.specs.Prelude.{IfErr, Result, Ok, Err, flat_map}
 use Rattle.m161_audit.specs.declared.finding.AuditError.{AuditError}
 use Rattle.m161_audit.specs.declared.finding.AuditError.TheVariants as audit
-use Rattle.s161_base.proofs.Asking.{IsNoFile, asks_both, asks_none, boot_is_none, file_unread, refused}
-use Rattle.s161_base.specs.Asked.{Asks, AsksUntil, image_files, option_files}
+use Rattle.s161_base.proofs.Asking.{IsNoFile, asks_both, asks_none, boot_is_none}
+use Rattle.s161_base.specs.Asked.{Asks, image_files, option_files}
 use Rattle.s161_base.specs.declared.fault.Fault.{Fault}
 use Rattle.s161_base.specs.declared.fault.Fault.TheVariants.{After, Conf, File, Image, Input, Log, LogImage, LogMachine, Memory, Never, Output, Schedule, Source, Threads, Touches, Watch, Watches, Word}
 use Rattle.s161_command.specs.declared.task.SearchTask.{SearchTask}

@@ -1,5 +1,5 @@
 use Rattle.std.proofs.Common.{◌≡◌, ◌⊎◌, ◌∙◌, ℕ, ◌<◌, arith, Bool, true, false, List, [], ◌∷◌, ◌++◌, length, take, drop, Option, None, Some, Ok, Err, ap, inl, inr, refl, sym, subst}
-use Rattle.std.specs.Prelude.{◌==◌, Result, IfErr, IfOk, option_map}
+use Rattle.std.specs.Prelude.{◌==◌, Result, IfOk}
 use Rattle.std.specs.List.{range_with_len}
 use Rattle.std.proofs.lemmas.Bool.{eqb-true}
 use Rattle.m161_judge.specs.declared.run.JudgedRun.{JudgedRun}
@@ -19,26 +19,20 @@ use Rattle.m161_order.specs.declared.order.Order.{Order}
 use Rattle.m161_order.specs.declared.order.Order.TheVariants.{Delayed}
 use Rattle.m161_order.specs.Delays.{delays_of}
 use Rattle.s161_base.specs.declared.fault.Fault.{Fault}
-use Rattle.s161_command.specs.declared.drive.Drive.{Drive}
-use Rattle.s161_run.specs.Driven.{rules_of}
 use Rattle.m161_judge.specs.declared.verdict.Verdict.{Verdict}
 use Rattle.m161_judge.specs.declared.verdict.Verdict.TheVariants.{Stale, Reached, Conflict, Stuck, Output, End}
 use Rattle.m161_judge.specs.Verdict.{Criteria, IsJudged, rank}
 use Rattle.m161_reach.specs.Hangs.{HangingAreMade}
 use Rattle.m161_states.specs.Question.{Question}
-use Rattle.m161_drive.specs.Policy.{Rules}
-use Rattle.m161_machine.specs.declared.conf.BootError.{BootError}
 use Rattle.m161_machine.specs.declared.event.Event.{Event}
 use Rattle.m161_machine.specs.History.{boot_fault}
 use Rattle.m161_machine.specs.State.{State}
-use Rattle.m161_shorten.specs.declared.judged.Judgement.{Judgement}
 use Rattle.m161_shorten.specs.Verdicts.{AreNeeded}
 use Rattle.m161_shorten.specs.Passes.{Shortens}
 use Rattle.m161_shorten.proofs.Alike.{shortens_by}
 use Rattle.s161_command.specs.declared.task.SearchTask.{SearchTask}
 use Rattle.s161_search.specs.Runs.{IsRunOf}
 use Rattle.s161_search.specs.Given.{Given, criteria_of}
-use Rattle.s161_search.specs.Runs.{IsRunFault}
 use Rattle.s161_search.specs.Seeds.{IsRightAt, IsRunAt, seed_at, with_seed}
 use Rattle.s161_search.specs.declared.orders.WrongRun.{WrongRun}
 use Rattle.s161_search.specs.Searches.{ArePrinted, HasKind, IsJudgedAt, is_whole, kind_behind}

@@ -1,4 +1,4 @@
-use Rattle.std.proofs.Common.{◌≡◌, ◌≢◌, ◌∙◌, ◌⊎◌, inl, inr, refl, ap, sym, subst, ℕ, ◌+◌, Bool, true, false, List, [], ◌∷◌, ◌++◌, length, take, append-nil, arith, Option, None, Some, Ok}
+use Rattle.std.proofs.Common.{◌≡◌, ◌≢◌, ◌∙◌, refl, ap, sym, subst, ℕ, ◌+◌, Bool, true, false, List, [], ◌∷◌, ◌++◌, length, take, append-nil, arith, Option, None, Some}
 use Rattle.std.specs.Prelude.{slice_get}
 use Rattle.std.proofs.lemmas.List.{map-append, take_all}
 use Rattle.m161_audit.specs.Watch.{AreGood}
@@ -9,7 +9,6 @@ use Rattle.m161_drive.specs.declared.run.Stop.TheVariants as drive
 use Rattle.m161_drive.specs.Choice.{cursor_at}
 use Rattle.m161_drive.specs.Drive.{Chooses, Drives, Stops}
 use Rattle.m161_drive.specs.Policy.{Rules}
-use Rattle.m161_judge.specs.declared.first.First.{First}
 use Rattle.m161_judge.specs.declared.run.JudgedRun.{JudgedRun}
 use Rattle.m161_judge.specs.Begun.{AreKeysBehind, IsFirstOf, IsRunBehind, keys_in}
 use Rattle.m161_judge.specs.Memory.{IsKeptOf}

@@ -1,4 +1,4 @@
-use Rattle.std.proofs.Common.{◌≡◌, ◌∙◌, ◌++◌, ap, sym, length, take, drop, None, Some, refl, subst}
+use Rattle.std.proofs.Common.{◌≡◌, ◌∙◌, ◌++◌, ap, sym, length, take, drop, Some, refl, subst}
 use Rattle.s161_search.specs.declared.told.SearchVerdict.TheVariants as verdicts
 use Rattle.s161_search.specs.helpers.Inputs.{given_of}
 use Rattle.s161_search.specs.Searches.{IsJudgedAt}
