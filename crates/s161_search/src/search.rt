@@ -145,9 +145,7 @@ fn make_orders<'a, R: Threads + Sync>(
     ensures within { IfOk result (λ done. (done.status ≤ 5) × (done.status ≢ 2)) }
 {
     match task.delays {
-        Some(class) => {
-            by_delays(rt, alloc, booted, start, task, inputs, ends, class, said)
-        }
+        Some(class) => { by_delays(rt, alloc, booted, start, task, inputs, ends, class, said) }
         None => by_seeds(rt, alloc, booted, start, task, inputs, ends, said),
     }
 }
