@@ -7,5 +7,4 @@ pub use Rattle.m161_reach.specs.Reach
 pub mod Stores
 pub mod Runs
 pub mod Watches
-pub mod Met
 pub mod helpers

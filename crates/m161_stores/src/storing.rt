@@ -66,7 +66,7 @@ impl<'a, T: Tlb + Drop, D: Console + Drop> System for Storing<'a, T, D> {
     ghost use Rattle.m161_reach.specs.Reach.{IsMet};
     ghost use Rattle.m161_reach.specs.Hand.{InHand, IsReady};
     ghost use Rattle.m161_stores.specs.helpers.Storing.{storing_rules};
-    ghost use Rattle.m161_stores.specs.Met.{alike_end, alike_next, alike_stop, alike_verdict, met_next, met_start};
+    ghost use Rattle.m161_stores.specs.helpers.Met.{alike_end, alike_next, alike_stop, alike_verdict, met_next, met_start};
 
     type State = Hand<T, D>;
 

@@ -93,7 +93,8 @@ fn answers_before_the_next_line(rt: HostRuntime) -> Result<(), Fail> {
     let words = ["s161", "debug", "image", "text"];
     let text = "end 1\n? Unknown\noff 0\n";
     let unread = "s161: input (standard input can't be read)\n";
-    let noted = "s161: note command (there is none of this name; help lists them)\ns161: input (standard input can't be read)\n";
+    let noted =
+        "s161: note command (there is none of this name; help lists them)\ns161: input (standard input can't be read)\n";
     for &(lines, answers, errors_text) in &[
         ("", 0, unread),
         ("g 1\n", 6, unread),
