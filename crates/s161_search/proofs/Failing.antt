@@ -251,12 +251,12 @@ search_failed task never files image given LogImage is h = absurd h
 search_failed task never files image given Output is h = absurd h
 search_failed task never files image given (Source e) is h = absurd h
 
-pub searched_so : (task : SearchTask) (never : List (List ℕ)) (files : List ℕ → Option (List ℕ)) (image : Option (List ℕ)) (given : Given) (r : Result Finished Fault) →
-    IsRead task files image given → IfOk r (λ done. PrintsFor task never given done.text.items done.status) →
-    IfOk r (λ done. IsSearched task never files image done.text.items done.status)
-searched_so task never files image given (Ok done) is h =
+pub searched_so : (task : SearchTask) (never : List (List ℕ)) (files : List ℕ → Option (List ℕ)) (image : Option (List ℕ)) (given : Given) (told : List ℕ) (r : Result Finished Fault) →
+    IsRead task files image given → IfOk r (λ done. PrintsFor task never given done.text.items told done.status) →
+    IfOk r (λ done. IsSearched task never files image done.text.items told done.status)
+searched_so task never files image given told (Ok done) is h =
     (with_addresses given h.0, (read_with task files image given h.0 is, h.1), h.2)
-searched_so task never files image given (Err fault) is h = tt
+searched_so task never files image given told (Err fault) is h = tt
 
 pub failed_so : (task : SearchTask) (never : List (List ℕ)) (files : List ℕ → Option (List ℕ)) (image : Option (List ℕ)) (given : Given) (r : Result Finished Fault) →
     IsRead task files image given → IfErr r (IsNeverFault task never given) → IfErr r (IsSearchFault task never files image)
@@ -265,12 +265,12 @@ failed_so task never files image given (Err fault) is h = search_failed task nev
 
 -- with the addresses of the words
 
-pub printed_for : (task : SearchTask) (words : List (List ℕ)) (given : Given) (inputs : Inputs) (r : Result Finished Fault) → HasNever task words given inputs →
-    IfOk r (λ done. Prints task (given_of inputs) task.delays done.text.items done.status) →
-    IfOk r (λ done. PrintsFor task words given done.text.items done.status)
-printed_for task words given inputs (Ok done) has h =
-    (inputs.never.items, has.1, subst (λ g. Prints task g task.delays done.text.items done.status) has.0 h)
-printed_for task words given inputs (Err fault) has h = tt
+pub printed_for : (task : SearchTask) (words : List (List ℕ)) (given : Given) (inputs : Inputs) (told : List ℕ) (r : Result Finished Fault) → HasNever task words given inputs →
+    IfOk r (λ done. Prints task (given_of inputs) task.delays done.text.items told done.status) →
+    IfOk r (λ done. PrintsFor task words given done.text.items told done.status)
+printed_for task words given inputs told (Ok done) has h =
+    (inputs.never.items, has.1, subst (λ g. Prints task g task.delays done.text.items told done.status) has.0 h)
+printed_for task words given inputs told (Err fault) has h = tt
 
 pub failed_for : (task : SearchTask) (words : List (List ℕ)) (given : Given) (inputs : Inputs) (r : Result Finished Fault) → HasNever task words given inputs →
     IfErr r (IsRunFault (given_of inputs)) → IfErr r (IsNeverFault task words given)

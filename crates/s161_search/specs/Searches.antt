@@ -1,4 +1,4 @@
-use Rattle.std.specs.Prelude.{◌≡◌, ◌⊎◌, ℕ, ◌-◌, ◌==◌, nat_lt, if◌then◌else◌, Bool, true, false, List, ◌++◌, length, take, drop, Option, None, Some}
+use Rattle.std.specs.Prelude.{◌≡◌, ◌⊎◌, ℕ, ◌-◌, ◌==◌, nat_lt, if◌then◌else◌, Bool, true, false, List, [], ◌++◌, length, take, drop, Option, None, Some}
 use Rattle.m161_judge.specs.declared.run.JudgedRun.{JudgedRun}
 use Rattle.m161_judge.specs.declared.verdict.Judged.{Judged}
 use Rattle.m161_judge.specs.declared.verdict.Verdict.TheVariants.{Stale, Reached, Conflict, Stuck, Output as OutputVerdict, End}
@@ -20,6 +20,7 @@ use Rattle.s161_search.specs.declared.told.SearchVerdict.TheVariants.{Run, Hung}
 use Rattle.s161_search.specs.declared.told.Told.{Told}
 use Rattle.s161_search.specs.Given.{Given, IsBadLine, IsRead, criteria_of}
 use Rattle.s161_search.specs.Never.{AreAddresses, LacksAddress, symbols_in}
+use Rattle.s161_search.specs.Notes.{Notes}
 use Rattle.s161_search.specs.Runs.{IsRunFault}
 use Rattle.s161_search.specs.Seeds.{AreClean, IsFirstWrong, seed_at}
 use Rattle.m161_delays.specs.declared.search.Class.{Class}
@@ -28,8 +29,9 @@ use Rattle.s161_command.specs.declared.class.DelayClass.{DelayClass}
 use Rattle.s161_search.specs.Delays.{AreCleanBy, IsFirstBy, class_of}
 use Rattle.s161_search.specs.Texts.{clean_text, delays_text, found_text, seed_text}
 use Rattle.s161_search.specs.Told.{IsRunTold, IsToldAt}
+use Rattle.s161_search.specs.Unstored.{ListsUnstored, SeedsUnstored}
 
--- The output and the exit status of `search`.
+-- The output and the exit status of `search`, and what it says on standard error.
 
 -- the verdict of a list of events, from the state at boot, whether it hangs or not
 abbrev pub IsJudgedAt : Given → List Event → Option Judged → Type 0
@@ -145,14 +147,17 @@ IsCleanBy task given steps class text =
     (runs cut : ℕ) × AreCleanBy task given steps class runs cut
     × (text ≡ with_line_end (clean_text runs cut))
 
--- what is printed and the exit status: by seeds, or by the delays of a class of runs by turns
-abbrev pub Prints : SearchTask → Given → Option DelayClass → List ℕ → ℕ → Type 0
-Prints task given None text status =
-    ((status ≡ 0) × IsClean task given text) ⊎ ((status ≡ 4) × IsFound task given text)
-Prints task given (Some class) text status =
+-- what is printed, what is said on standard error, and the exit status: by seeds, or by the delays of a
+-- class of runs by turns. Where none goes wrong, it is said to which words of watches none of them stores
+abbrev pub Prints : SearchTask → Given → Option DelayClass → List ℕ → List ℕ → ℕ → Type 0
+Prints task given None text told status =
+    ((status ≡ 0) × IsClean task given text × Notes (SeedsUnstored task given) given.watches told)
+    ⊎ ((status ≡ 4) × IsFound task given text × (told ≡ []))
+Prints task given (Some class) text told status =
     (steps : ℕ) × (task.drive.order ≡ Turns steps)
-    × (((status ≡ 0) × IsCleanBy task given steps (class_of class) text)
-    ⊎ ((status ≡ 4) × IsFoundBy task given steps (class_of class) text))
+    × (((status ≡ 0) × IsCleanBy task given steps (class_of class) text
+    × Notes (ListsUnstored task given steps (class_of class)) given.watches told)
+    ⊎ ((status ≡ 4) × IsFoundBy task given steps (class_of class) text × (told ≡ [])))
 
 -- all that was read, and the addresses of these words; the files have these bytes, and that of the
 -- image, as far as they are known
@@ -161,11 +166,13 @@ abbrev pub IsGiven :
 IsGiven task never files image given =
     IsRead task files image given × AreAddresses (symbols_in task given) never given.never
 
--- a finished search: what it prints and its exit status
+-- a finished search: what it prints, what it says on standard error, and its exit status
 abbrev pub IsSearched :
-    SearchTask → List (List ℕ) → (List ℕ → Option (List ℕ)) → Option (List ℕ) → List ℕ → ℕ → Type 0
-IsSearched task never files image text status =
-    (given : Given) × IsGiven task never files image given × Prints task given task.delays text status
+    SearchTask → List (List ℕ) → (List ℕ → Option (List ℕ)) → Option (List ℕ) → List ℕ → List ℕ → ℕ
+    → Type 0
+IsSearched task never files image text told status =
+    (given : Given) × IsGiven task never files image given
+    × Prints task given task.delays text told status
 
 -- a run isn't made, of what was read
 abbrev pub IsNotRun :

@@ -1,8 +1,9 @@
 //! Looking for a seed whose run goes wrong.
 
-ghost use Rattle.std.specs.Prelude.{◌≡◌, ◌≢◌, ◌≤◌, ℕ, IfErr, IfOk, None, Some, map};
+ghost use Rattle.std.specs.Prelude.{◌≡◌, ◌≢◌, ◌≤◌, ℕ, [], IfErr, IfOk, None, Some, map, string_bytes};
 ghost use Rattle.m161_order.specs.declared.order.Order.TheVariants as order;
 ghost use Rattle.m161_order.specs.Delays.{delays_of};
+ghost use Rattle.m161_text.specs.Lines.{with_line_end};
 ghost use Rattle.s161_command.specs.Classes.{HasClassLimits};
 ghost use Rattle.s161_base.specs.Asked.{AsksFor};
 ghost use Rattle.s161_base.specs.Samples.{image_file};
@@ -10,6 +11,8 @@ ghost use Rattle.s161_search.specs.Given.{AreAllKeys, search_files};
 ghost use Rattle.s161_search.specs.helpers.Begun.{BeginsAt, IsStarted};
 ghost use Rattle.s161_search.specs.helpers.Inputs.{given_of};
 ghost use Rattle.s161_search.specs.helpers.Never.{IsNeverFault, PrintsFor};
+ghost use Rattle.s161_search.specs.Notes.{notes_text};
+ghost use Rattle.s161_search.specs.Texts.{clean_text};
 ghost use Rattle.s161_search.specs.Searches.{IsFound, IsSearched, IsSearchFault, Prints};
 ghost use Rattle.s161_search.specs.Runs.{IsRunFault};
 ghost use Rattle.s161_search.specs.Seeds.{IsFirstWrong};
@@ -20,9 +23,12 @@ ghost use Rattle.s161_search.specs.helpers.Tried.{IsListed};
 use crate::delays::try_lists;
 use crate::found::print_of;
 use crate::inputs::{Inputs, read_inputs};
+use crate::list_stores::unstored_by_lists;
 use crate::never::with_never;
+use crate::notes::notes_text;
 use crate::orders::WrongRun;
 use crate::points::start_core;
+use crate::seed_stores::unstored_by_seeds;
 use crate::seeds::{boot, seed_at, try_seeds};
 use crate::start::{Start, make_start};
 use crate::texts::{clean_line, delays_line, found_lines, seed_line};
@@ -33,6 +39,7 @@ use m161_judge::Booted;
 use m161_order::Order;
 use m161_reach::{Machines, can_be_asked};
 use m161_states::Known;
+use m161_stores::Unstored;
 use s161_base::fault::Fault;
 use s161_base::files::FileSource;
 use s161_base::finished::Finished;
@@ -42,7 +49,8 @@ use std::thread::Threads;
 
 /// Reads the image, the events that come first, the keys, the watches and then the output, and makes the run
 /// of each seed, or of each useful list of delays, behind those events, up to the first that goes wrong,
-/// whose schedule it prints.
+/// whose schedule it prints. What is to be said on standard error is put into `said`: where none goes wrong,
+/// a note for each word of a watch to which no Step of the runs stores.
 ///
 /// # Errors
 /// The first fault; an event of an order that is refused is a want of memory.
@@ -54,10 +62,11 @@ pub fn search<'a, R: Threads + Sync, F: FileSource>(
     files: &mut F,
     task: SearchTask<'a>,
     never: &[&'a str],
+    said: &mut String,
 ) -> Result<Finished, Fault<'a>>
     requires class { HasClassLimits task.drive.order task.delays }
     ensures ok { IfOk result (λ done. IsSearched task.entry (map (λ word. word.now) never.now) (F.known files.old)
-        (image_file (F.known files.old) task.entry.image.now) done.text.items done.status) }
+        (image_file (F.known files.old) task.entry.image.now) done.text.items (string_bytes said.new) done.status) }
     ensures fault { IfErr result (IsSearchFault task.entry (map (λ word. word.now) never.now) (F.known files.old)
         (image_file (F.known files.old) task.entry.image.now)) }
     ensures asks { AsksFor (search_files task.entry) result (F.asked files.old)
@@ -65,7 +74,7 @@ pub fn search<'a, R: Threads + Sync, F: FileSource>(
     ensures within { IfOk result (λ done. (done.status ≤ 5) × (done.status ≢ 2)) }
 {
     let inputs = read_inputs(alloc, files, task)?;
-    search_in(rt, alloc, task, never, inputs)
+    search_in(rt, alloc, task, never, inputs, said)
 }
 
 // Makes the runs of what was read.
@@ -76,16 +85,17 @@ fn search_in<'a, R: Threads + Sync>(
     task: SearchTask<'a>,
     never: &[&'a str],
     inputs: Inputs,
+    said: &mut String,
 ) -> Result<Finished, Fault<'a>>
     requires class { HasClassLimits task.drive.order task.delays }
     requires keys { AreAllKeys (given_of inputs) }
-    ensures ok { IfOk result (λ done. PrintsFor task.entry (map (λ word. word.now) never.now) (given_of inputs) done.text.items done.status) }
+    ensures ok { IfOk result (λ done. PrintsFor task.entry (map (λ word. word.now) never.now) (given_of inputs) done.text.items (string_bytes said.new) done.status) }
     ensures fault { IfErr result (IsNeverFault task.entry (map (λ word. word.now) never.now) (given_of inputs)) }
     ensures within { IfOk result (λ done. (done.status ≤ 5) × (done.status ≢ 2)) }
 {
     let booted = boot(alloc, &inputs)?;
     let inputs = with_never(alloc, &booted, task, never, inputs)?;
-    make_runs(rt, alloc, &booted, task, &inputs)
+    make_runs(rt, alloc, &booted, task, &inputs, said)
 }
 
 // Makes the runs.
@@ -95,11 +105,12 @@ fn make_runs<'a, R: Threads + Sync>(
     booted: &Booted<Tlb, Console>,
     task: SearchTask<'a>,
     inputs: &Inputs,
+    said: &mut String,
 ) -> Result<Finished, Fault<'a>>
     requires booted { BeginsAt (given_of inputs.now) booted.now }
     requires keys { AreAllKeys (given_of inputs.now) }
     requires class { HasClassLimits task.drive.order task.delays }
-    ensures ok { IfOk result (λ done. Prints task.entry (given_of inputs.now) task.entry.delays done.text.items done.status) }
+    ensures ok { IfOk result (λ done. Prints task.entry (given_of inputs.now) task.entry.delays done.text.items (string_bytes said.new) done.status) }
     ensures fault { IfErr result (IsRunFault (given_of inputs.now)) }
     ensures within { IfOk result (λ done. (done.status ≤ 5) × (done.status ≢ 2)) }
 {
@@ -112,7 +123,7 @@ fn make_runs<'a, R: Threads + Sync>(
         return Err(Fault::Memory);
     }
     let ends = Machines::new(alloc, core, &goal, Known::nothing());
-    make_orders(rt, alloc, booted, &start, task, inputs, &ends)
+    make_orders(rt, alloc, booted, &start, task, inputs, &ends, said)
 }
 
 // Makes them by seeds or by delays.
@@ -124,18 +135,48 @@ fn make_orders<'a, R: Threads + Sync>(
     task: SearchTask<'a>,
     inputs: &Inputs,
     ends: &Machines<'_, Tlb, Console>,
+    said: &mut String,
 ) -> Result<Finished, Fault<'a>>
     requires begins { Begins (given_of inputs.now) booted.now ends.now }
     requires started { IsStarted (given_of inputs.now) booted.now start.now }
     requires class { HasClassLimits task.drive.order task.delays }
-    ensures ok { IfOk result (λ done. Prints task.entry (given_of inputs.now) task.entry.delays done.text.items done.status) }
+    ensures ok { IfOk result (λ done. Prints task.entry (given_of inputs.now) task.entry.delays done.text.items (string_bytes said.new) done.status) }
     ensures fault { IfErr result (IsRunFault (given_of inputs.now)) }
     ensures within { IfOk result (λ done. (done.status ≤ 5) × (done.status ≢ 2)) }
 {
     match task.delays {
-        Some(class) => by_delays(rt, alloc, booted, start, task, inputs, ends, class),
-        None => by_seeds(rt, alloc, booted, start, task, inputs, ends),
+        Some(class) => { by_delays(rt, alloc, booted, start, task, inputs, ends, class, said) }
+        None => by_seeds(rt, alloc, booted, start, task, inputs, ends, said),
     }
+}
+
+// What is printed of runs none of which goes wrong, and said of watches.
+fn clean_runs(
+    alloc: Global,
+    runs: u64,
+    cut: u64,
+    unstored: &[Unstored],
+    said: &mut String,
+) -> Result<Finished, AllocError>
+    ensures status { IfOk result (λ done. done.status ≡ 0) }
+    ensures text { IfOk result (λ done. done.text.items ≡ with_line_end (clean_text runs cut)) }
+    ensures said { IfOk result (λ done. string_bytes said.new ≡ notes_text 0 unstored.now) }
+{
+    *said = notes_text(alloc, unstored)?;
+    Ok(Finished {
+        text: clean_line(alloc, runs, cut)?.into_bytes(),
+        status: 0,
+    })
+}
+
+// What is printed of a run that goes wrong, of which nothing is said.
+fn wrong_run(alloc: Global, text: Vec<u8>, said: &mut String) -> Finished
+    ensures status { result.status ≡ 4 }
+    ensures text { result.text.items ≡ text.items }
+    ensures said { string_bytes said.new ≡ [] }
+{
+    *said = String::new(alloc);
+    Finished { text, status: 4 }
 }
 
 // Makes the runs of the seeds.
@@ -148,22 +189,25 @@ fn by_seeds<'a, R: Threads + Sync>(
     task: SearchTask<'a>,
     inputs: &Inputs,
     ends: &Machines<'_, Tlb, Console>,
+    said: &mut String,
 ) -> Result<Finished, Fault<'a>>
     requires begins { Begins (given_of inputs.now) booted.now ends.now }
     requires started { IsStarted (given_of inputs.now) booted.now start.now }
-    ensures ok { IfOk result (λ done. Prints task.entry (given_of inputs.now) None done.text.items done.status) }
+    ensures ok { IfOk result (λ done. Prints task.entry (given_of inputs.now) None done.text.items (string_bytes said.new) done.status) }
     ensures fault { IfErr result (IsRunFault (given_of inputs.now)) }
     ensures within { IfOk result (λ done. (done.status ≤ 5) × (done.status ≢ 2)) }
 {
     match try_seeds(rt, alloc, start, task, inputs, ends)? {
-        Tried::Clean { cut } => Ok(Finished {
-            text: clean_line(alloc, u64::from(task.seeds), u64::from(cut))?.into_bytes(),
-            status: 0,
-        }),
-        Tried::Wrong { place, wrong } => Ok(Finished {
-            text: found_text(alloc, booted, task, inputs, ends, place, wrong)?,
-            status: 4,
-        }),
+        Tried::Clean { cut } => {
+            let watches = &inputs.watches;
+            let unstored = unstored_by_seeds(rt, alloc, booted, start, task, inputs, watches)?;
+            let runs = u64::from(task.seeds);
+            Ok(clean_runs(alloc, runs, u64::from(cut), &unstored, said)?)
+        }
+        Tried::Wrong { place, wrong } => {
+            let text = found_text(alloc, booted, task, inputs, ends, place, wrong)?;
+            Ok(wrong_run(alloc, text, said))
+        }
     }
 }
 
@@ -224,24 +268,28 @@ fn by_delays<'a, R: Threads + Sync>(
     inputs: &Inputs,
     ends: &Machines<'_, Tlb, Console>,
     class: DelayClass,
+    said: &mut String,
 ) -> Result<Finished, Fault<'a>>
     requires begins { Begins (given_of inputs.now) booted.now ends.now }
     requires started { IsStarted (given_of inputs.now) booted.now start.now }
     requires class { HasClassLimits task.drive.order (Some class) }
-    ensures ok { IfOk result (λ done. Prints task.entry (given_of inputs.now) (Some class) done.text.items done.status) }
+    ensures ok { IfOk result (λ done. Prints task.entry (given_of inputs.now) (Some class) done.text.items (string_bytes said.new) done.status) }
     ensures fault { IfErr result (IsRunFault (given_of inputs.now)) }
     ensures within { IfOk result (λ done. (done.status ≤ 5) × (done.status ≢ 2)) }
 {
     let turns = turns_of(task.drive.order);
     match try_lists(rt, alloc, start, task, inputs, ends, turns, class)? {
-        Searched::Clean { runs, cut } => Ok(Finished {
-            text: clean_line(alloc, runs, cut)?.into_bytes(),
-            status: 0,
-        }),
-        Searched::Wrong { delays, wrong } => Ok(Finished {
-            text: listed_text(alloc, booted, task, inputs, ends, &delays, wrong)?,
-            status: 4,
-        }),
+        Searched::Clean { runs, cut } => {
+            let watches = &inputs.watches;
+            let unstored = unstored_by_lists(
+                rt, alloc, booted, start, task, inputs, ends, turns, class, watches,
+            )?;
+            Ok(clean_runs(alloc, runs, cut, &unstored, said)?)
+        }
+        Searched::Wrong { delays, wrong } => {
+            let text = listed_text(alloc, booted, task, inputs, ends, &delays, wrong)?;
+            Ok(wrong_run(alloc, text, said))
+        }
     }
 }
 

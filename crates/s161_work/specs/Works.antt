@@ -123,7 +123,7 @@ IsResultOf never (Trace task) files input = λ text told status. ⊥
 IsResultOf never (Debug task) files input = λ text told status. ⊥
 IsResultOf never (Gdb task) files input = λ text told status. ⊥
 IsResultOf never (Search task) files input =
-    Silently (IsSearched task never files (image_file files task.image.now))
+    IsSearched task never files (image_file files task.image.now)
 IsResultOf never (Explore task) files input =
     IsExplored task never files (image_file files task.image.now)
 IsResultOf never (Replay task) files input =

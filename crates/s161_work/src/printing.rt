@@ -124,7 +124,7 @@ fn finish<'a, R: Threads + Wait + Sync, F: FileSource, I: Read>(
         Task::RunDriven(task) => finish_driven(alloc, files, task, said),
         Task::Schedule(task) => finish_schedule(alloc, files, task),
         Task::Console(_) | Task::Trace(_) | Task::Debug(_) | Task::Gdb(_) => unreachable!(),
-        Task::Search(task) => search(rt, alloc, files, task, never),
+        Task::Search(task) => search(rt, alloc, files, task, never, said),
         Task::Explore(task) => explore(alloc, files, task, never, said),
         Task::Replay(task) => replay(alloc, files, task),
         Task::Audit(task) => audit(alloc, files, input, task, said),

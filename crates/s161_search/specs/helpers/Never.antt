@@ -33,11 +33,11 @@ HasNever task words given inputs =
     (given_of inputs ≡ with_addresses given inputs.never.items)
     × AreAddresses (symbols_in task given) words inputs.never.items
 
--- what is printed of what was read, with the addresses of these words
-abbrev pub PrintsFor : SearchTask → List (List ℕ) → Given → List ℕ → ℕ → Type 0
-PrintsFor task words given text status =
+-- what is printed and said of what was read, with the addresses of these words
+abbrev pub PrintsFor : SearchTask → List (List ℕ) → Given → List ℕ → List ℕ → ℕ → Type 0
+PrintsFor task words given text told status =
     (addresses : List ℕ) × AreAddresses (symbols_in task given) words addresses
-    × Prints task (with_addresses given addresses) task.delays text status
+    × Prints task (with_addresses given addresses) task.delays text told status
 
 -- a word stands for no address, or a run can't be made
 abbrev pub IsNeverFault : SearchTask → List (List ℕ) → Given → Fault → Type 0

@@ -1,13 +1,14 @@
-use Rattle.std.proofs.Common.{inr, refl, subst}
+use Rattle.std.proofs.Common.{inr, subst, sym}
 use Rattle.m161_order.specs.Delays.{delays_of}
 use Rattle.s161_search.specs.Delays.{IsFirstBy, class_of}
 use Rattle.s161_search.specs.helpers.Inputs.{given_of}
 use Rattle.s161_search.specs.helpers.Tried.{IsSearchedBy}
+use Rattle.s161_search.specs.Searches.{IsFoundBy}
 use Rattle.s161_search.proofs.Delaying.{found_listed, turns_are}
 use Rattle.s161_search.proofs.search.by_delays.Goals as goal
 
-pub returns-in_ok-listed_text-in-Wrong-clause-ok : goal.returns-in_ok-listed_text-in-Wrong-clause-ok
-returns-in_ok-listed_text-in-Wrong-clause-ok g c =
+pub returns-in_ok-text-in-Wrong-clause-ok : goal.returns-in_ok-text-in-Wrong-clause-ok
+returns-in_ok-text-in-Wrong-clause-ok g c =
     let task = c.args.task in
     let given = given_of c.args.inputs.now in
     let class = class_of c.args.class in
@@ -18,9 +19,10 @@ returns-in_ok-listed_text-in-Wrong-clause-ok g c =
       turns.0,
       turns.1,
       inr (
-        refl,
-        found_listed task given turns.0 class (delays_of c.in-Wrong.delays) c.in-Wrong.wrong c.in_ok-listed_text-in-Wrong.field-0.items
+        c.wrong_run.ensures.status,
+        subst (IsFoundBy task given turns.0 class) (sym c.wrong_run.ensures.text) (found_listed task given turns.0 class (delays_of c.in-Wrong.delays) c.in-Wrong.wrong c.in_ok-text-in-Wrong.text.items
             (subst (λ k. IsFirstBy task given k class (delays_of c.in-Wrong.delays) c.in-Wrong.wrong.run c.in-Wrong.wrong.told) steps first)
-            c.in_ok-listed_text-in-Wrong.ensures,
+            c.in_ok-text-in-Wrong.ensures),
+        c.wrong_run.ensures.said,
       ),
     )

@@ -1,3 +1,4 @@
+use Rattle.std.specs.Prelude.{string_bytes}
 use Rattle.std.proofs.Common.{map}
 use Rattle.std.proofs.lemmas.Result.{err_from_is_err_and}
 use Rattle.s161_base.proofs.Asking.{result_asks}
@@ -17,7 +18,7 @@ pub returns-clause-ok : goal.returns-clause-ok
 returns-clause-ok g c =
     let files = g.F.FileSource.known c.args.files.now in
     searched_so c.args.task (map (λ word. word.now) c.args.never.now) files (image_file files c.args.task.image.now) (given_of c.in_ok-inputs.inputs)
-    c.search_in.result c.in_ok-inputs.ensures.ok c.search_in.ensures.ok
+    (string_bytes c.search_in.new.said) c.search_in.result c.in_ok-inputs.ensures.ok c.search_in.ensures.ok
 
 pub returns-clause-fault : goal.returns-clause-fault
 returns-clause-fault g c =

@@ -1,3 +1,4 @@
+use Rattle.std.specs.Prelude.{string_bytes}
 use Rattle.std.proofs.Common.{map, subst, sym}
 use Rattle.s161_search.specs.Given.{AreAllKeys}
 use Rattle.s161_search.specs.helpers.Inputs.{given_of}
@@ -6,7 +7,7 @@ use Rattle.s161_search.proofs.search.search_in.Goals as goal
 
 pub returns-clause-ok : goal.returns-clause-ok
 returns-clause-ok g c =
-    printed_for c.args.task (map (λ word. word.now) c.args.never.now) (given_of c.args.inputs) c.in_ok-inputs.inputs c.make_runs.result
+    printed_for c.args.task (map (λ word. word.now) c.args.never.now) (given_of c.args.inputs) c.in_ok-inputs.inputs (string_bytes c.make_runs.new.said) c.make_runs.result
     c.in_ok-inputs.ensures.ok c.make_runs.ensures.ok
 
 pub returns-clause-fault : goal.returns-clause-fault

@@ -15,6 +15,9 @@ returns-in-RunDriven-clause-ok g c = rw c.in-RunDriven.is c.finish_driven.ensure
 pub returns-in-Replay-clause-ok : goal.returns-in-Replay-clause-ok
 returns-in-Replay-clause-ok g c = rw c.in-Replay.is (IfOk-weaker c.replay.result _ _ (λ done h. (c.requires.empty, h)) c.replay.ensures.ok)
 
+pub returns-in-Search-clause-ok : goal.returns-in-Search-clause-ok
+returns-in-Search-clause-ok g c = rw c.in-Search.is c.search.ensures.ok
+
 pub returns-in-Explore-clause-ok : goal.returns-in-Explore-clause-ok
 returns-in-Explore-clause-ok g c = rw c.in-Explore.is c.explore.ensures.ok
 
