@@ -150,7 +150,26 @@ def first_events(command, k):
         text = command.text.decode()
         events = commands.events_of(text)[:k]
         return command.words, (commands.machine_of(text) + "".join(f"{event}\n" for event in events)).encode()
+    if "--after" in command.words:
+        return without_order(command.words), schedule_text(command, k)
     return option(command.words, "--events", str(k)), command.text
+
+
+# The options of an order, each with a value.
+ORDER = {"--turns", "--delayed", "--random", "--changes", "--within", "--events", "--transfer", "--keys", "--gap",
+         "--after"}
+
+
+def without_order(words):
+    """These words without the options of an order."""
+    return [word for at, word in enumerate(words) if word not in ORDER and words[at - 1] not in ORDER]
+
+
+def schedule_text(command, k):
+    """The first K events of a run by an order, as a schedule."""
+    text = running.place.undisturbed(["schedule", *without(command.words[1:])]).output.decode()
+    events = commands.events_of(text)[:k]
+    return (commands.machine_of(text) + "".join(f"{event}\n" for event in events)).encode()
 
 
 def entries_of(log):
