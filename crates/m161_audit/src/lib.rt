@@ -29,6 +29,6 @@ pub use going::Auditor;
 pub use laws::is_found_in_parts;
 pub use m161_machine::{BootError, Conf, Event, Events, LinkUnit};
 pub use m161_steplog::TextFault;
-pub use run::{audit, audit_core, audit_events};
+pub use run::{audit, audit_core, audit_events, audit_events_with};
 pub use text::read_watches;
 pub use watch::Watch;

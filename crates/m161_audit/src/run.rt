@@ -22,6 +22,7 @@ use crate::watch::{Watch, is_bad};
 use m161_bus::Console;
 use m161_cpu::Via;
 use m161_machine::{BootError, Conf, Core, Event, Events, Machine, Refusal};
+use m161_progress::{Listener, Nobody};
 use m161_tlb::Tlb;
 use std::alloc::Global;
 
@@ -206,10 +207,11 @@ fn audit_run<T: Tlb, D: Console>(
 }
 
 // Audits events from a state on.
-fn find<T: Tlb, D: Console>(
+fn find<T: Tlb, D: Console, L: Listener>(
     core: &mut Core<T, D>,
     events: &Events,
     shootdowns: &mut Shootdowns,
+    listener: &L,
 ) -> Result<Finding, AuditError>
     ensures { (watches : List Watch) (s : StoreState)
         → IsAt watches s core.old.state shootdowns.old
@@ -227,6 +229,7 @@ fn find<T: Tlb, D: Console>(
             });
         }
         done += times as usize;
+        listener.reached(done as u64);
     }
     Ok(Finding::Clean)
 }
@@ -333,8 +336,25 @@ pub fn audit_events<T: Tlb + Drop, D: Console + Drop>(
 ) -> Result<Finding, AuditError>
     ensures { Audits file.now conf (boot_fault file.now conf) events.now watches.now result }
 {
+    audit_events_with::<T, D, Nobody>(alloc, file, conf, events, watches, &Nobody)
+}
+
+/// The same, while someone listens how many events were made.
+///
+/// # Errors
+/// Those of `audit_events`.
+pub fn audit_events_with<T: Tlb + Drop, D: Console + Drop, L: Listener>(
+    alloc: Global,
+    file: &[u8],
+    conf: Conf,
+    events: &Events,
+    watches: &[Watch],
+    listener: &L,
+) -> Result<Finding, AuditError>
+    ensures { Audits file.now conf (boot_fault file.now conf) events.now watches.now result }
+{
     let (mut core, mut shootdowns) = begin::<T, D>(alloc, file, conf, watches)?;
-    find(&mut core, events, &mut shootdowns)
+    find(&mut core, events, &mut shootdowns, listener)
 }
 
 /// The same, for a list of events.

@@ -26,4 +26,4 @@ mod views;
 mod whole;
 
 pub use system::{Advanced, System};
-pub use whole::{Answer, explore};
+pub use whole::{Answer, explore, explore_with};

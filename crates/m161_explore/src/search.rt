@@ -6,6 +6,7 @@ ghost use Rattle.m161_explore.specs.helpers.Visit.{AreRefused, Finds, HasPassed,
 use super::graph::{Graph, Node};
 use super::system::{Advanced, System};
 use super::views::{Entry, Views};
+use m161_progress::Listener;
 use std::alloc::{AllocError, Global};
 
 /// How it goes on after an event.
@@ -219,13 +220,14 @@ fn expand<S: System>(
 }
 
 /// Tries all events of all states.
-pub fn search<S: System>(
+pub fn search<S: System, L: Listener>(
     alloc: Global,
     system: &S,
     state: &mut S::State,
     words: &mut Vec<u32>,
     graph: &mut Graph,
     limit: u32,
+    listener: &L,
 ) -> Result<Outcome<S::Verdict, S::Reason>, AllocError>
     requires ready { S.is_ready system.now state.old }
     requires before { IsBefore (S.rules system.now) (S.is_valid system.now) graph.old.keys graph.old.nodes.items graph.old.links.items 0 }
@@ -239,6 +241,7 @@ pub fn search<S: System>(
         if from as usize == graph.keys.len() {
             return Ok(Outcome::Whole);
         }
+        listener.reached(graph.keys.len() as u64);
         match expand(alloc, system, state, words, &mut here, graph, from, limit)? {
             Visit::Went => {}
             Visit::FoundWrong(event, verdict) => return Ok(Outcome::WrongFrom(

@@ -7,6 +7,7 @@ use super::ends::{first_unflagged, spread_all};
 use super::graph::{Graph, path_to, start_alone, trail_of};
 use super::search::{Outcome, search};
 use super::system::System;
+use m161_progress::{Listener, Nobody};
 use std::alloc::{AllocError, Global};
 
 /// What an exploration found.
@@ -101,11 +102,29 @@ pub fn explore<S: System>(
     requires { 0 < limit }
     ensures { IfOk result (Answers (S.rules system.now) limit) }
 {
+    explore_with(alloc, system, limit, &Nobody)
+}
+
+/// The same, while someone listens how far it is.
+///
+/// # Errors
+/// Memory is refused.
+pub fn explore_with<S: System, L: Listener>(
+    alloc: Global,
+    system: &S,
+    limit: u32,
+    listener: &L,
+) -> Result<Answer<S::Verdict, S::Reason>, AllocError>
+    requires { 0 < limit }
+    ensures { IfOk result (Answers (S.rules system.now) limit) }
+{
     let mut state = system.start(alloc)?;
     let mut words = Vec::new(alloc);
     system.encode(&mut state, &mut words)?;
     let mut graph = start_alone(alloc, &words)?;
-    match search(alloc, system, &mut state, &mut words, &mut graph, limit)? {
+    match search(
+        alloc, system, &mut state, &mut words, &mut graph, limit, listener,
+    )? {
         Outcome::Whole => judge(alloc, system, &mut state, &graph, limit),
         Outcome::WrongFrom(from, event, verdict) => {
             let mut events = path_to(alloc, &graph.nodes, from)?;

@@ -38,4 +38,4 @@ pub use machines::Machines;
 pub use named::{named_are_made, numbers_name};
 pub use place::Place;
 pub use question::can_be_asked;
-pub use whole::{Exploration, explore_machine};
+pub use whole::{Exploration, explore_machine, explore_machine_with};

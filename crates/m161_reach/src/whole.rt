@@ -6,9 +6,10 @@ ghost use Rattle.m161_reach.specs.Reach.{CanBeAsked, HasEnded, IsLearnt, questio
 
 use crate::machines::Machines;
 use m161_bus::Console;
-use m161_explore::{Answer, explore};
+use m161_explore::{Answer, explore_with};
 use m161_judge::Goal;
 use m161_machine::Core;
+use m161_progress::{Listener, Nobody};
 use m161_states::{Known, Unknown, Verdict};
 use m161_tlb::Tlb;
 use std::alloc::{AllocError, Global};
@@ -41,11 +42,32 @@ pub fn explore_machine<'a, T: Tlb + Drop, D: Console + Drop>(
     ensures whole { IfOk result (λ found. HasEnded found.answer → ⊥) }
     ensures learnt { IfOk result (λ found. IsLearnt (question_of boot.now.state goal.now found.known)) }
 {
+    explore_machine_with(alloc, boot, goal, limit, &Nobody)
+}
+
+/// The same, while someone listens how far it is.
+///
+/// # Errors
+/// Memory is refused.
+pub fn explore_machine_with<'a, T: Tlb + Drop, D: Console + Drop, L: Listener>(
+    alloc: Global,
+    boot: &'a Core<T, D>,
+    goal: &'a Goal<'a>,
+    limit: u32,
+    listener: &L,
+) -> Result<Exploration, AllocError>
+    requires asked { CanBeAsked boot.now.state goal.now }
+    requires some { 0 < limit }
+    ensures answers { IfOk result (λ found.
+        Answers (rules_of (question_of boot.now.state goal.now found.known)) limit found.answer) }
+    ensures whole { IfOk result (λ found. HasEnded found.answer → ⊥) }
+    ensures learnt { IfOk result (λ found. IsLearnt (question_of boot.now.state goal.now found.known)) }
+{
     boot.law();
     let mut known = Known::nothing();
     loop {
         let machines = Machines::new(alloc, boot, goal, known);
-        match explore(alloc, &machines, limit)? {
+        match explore_with(alloc, &machines, limit, listener)? {
             Answer::Ended(unknown) => known.insert(unknown.processor, unknown.reads),
             answer => return Ok(Exploration { known, answer }),
         }

@@ -66,5 +66,5 @@ pub use machine::{MachineLine, machine_line, read_machine};
 pub use mode::Mode;
 pub use schedule::read_schedule;
 pub use size::{MachineSize, read_size, size_line};
-pub use verdict::{Comparison, verify};
+pub use verdict::{Comparison, verify, verify_with};
 pub use written::write_schedule;

@@ -6,6 +6,7 @@ ghost use Rattle.m161_steplog.specs.helpers.Verdict.{Repeats};
 
 use m161_bus::Console;
 use m161_machine::{BootError, Conf, Core, Entry, Machine, Refusal};
+use m161_progress::{Listener, Nobody};
 use m161_tlb::Tlb;
 use std::alloc::Global;
 
@@ -42,11 +43,33 @@ pub fn verify<T: Tlb + Drop, D: Console + Drop>(
 ) -> Result<Comparison, BootError>
     ensures { Verifies file.now conf (boot_fault file.now conf) log.now result }
 {
+    verify_with::<T, D, Nobody>(alloc, file, conf, log, &Nobody)
+}
+
+// After so many events a listener is told again.
+const TOLD_AFTER: usize = 4096;
+
+/// The same, while someone listens how many events were made.
+///
+/// # Errors
+/// Those of `verify`.
+pub fn verify_with<T: Tlb + Drop, D: Console + Drop, L: Listener>(
+    alloc: Global,
+    file: &[u8],
+    conf: Conf,
+    log: &[Entry],
+    listener: &L,
+) -> Result<Comparison, BootError>
+    ensures { Verifies file.now conf (boot_fault file.now conf) log.now result }
+{
     let machine: Machine<T, D> = Machine::boot(alloc, file, conf)?;
     let mut core = machine.into_core();
     for (k, entry) in log.iter().enumerate() {
         if !repeats(&mut core, *entry)? {
             return Ok(Comparison::Differs(k));
+        }
+        if k % TOLD_AFTER == 0 {
+            listener.reached(k as u64);
         }
     }
     Ok(Comparison::Agrees)

@@ -29,32 +29,57 @@
 //!
 //! `main` only collects the arguments and passes the streams to `start`, which does all work over
 //! any source of files, reader and writers. Where standard input is a terminal, it is told before a schedule
-//! is read from it.
+//! is read from it; and while a command is at work, a thread beside it shows how far it is.
 #![tactic(auto)]
 
 ghost use Rattle.std.specs.Prelude.{◌≡◌, ◌≢◌, ◌⊎◌, IfErr};
 ghost use Rattle.std.specs.IoError.{error_kind};
 
+use s161_progress::{Cleared, Meter, Progress, Way};
 use s161_work::fault::Fault;
 use s161_work::files::HostFiles;
 use s161_work::prompt::{Prompted, reads_schedule};
+use s161_work::waiting::way_of;
 use s161_work::work::start;
 use std::io::{ErrorKind, IsTerminal};
 use std::process::ExitCode;
-use std::{env, io};
+use std::{env, io, thread};
 
 fn main(rt: HostRuntime) -> ExitCode {
     let words = arguments(&rt);
     let is_wanted = rt.stdin().is_terminal() && may_read_schedule(&words);
     let mut input = Prompted::new(rt.stdin(), rt.stderr(), is_wanted);
-    ExitCode::from(start(
-        &rt,
-        words,
-        &mut HostFiles::new(&rt),
-        &mut input,
-        &mut rt.stdout(),
-        &mut rt.stderr(),
-    ))
+    let way = way_asked(&words, rt.stderr().is_terminal());
+    let (progress, meter) = (Progress::new(), Meter::new());
+    let shown = way.map(|_way| &meter);
+    let mut output = Cleared::new(&rt, shown, rt.stdout(), rt.stderr());
+    let mut errors = Cleared::new(&rt, shown, rt.stderr(), rt.stderr());
+    let status = thread::scope(thread::scope_env(), &rt, |scope| {
+        if let Some(way) = way {
+            // Where no thread can be made, nothing is shown.
+            let _shower = scope.spawn(|| meter.show(&rt, &mut rt.stderr(), &progress, way));
+        }
+        let status = start(
+            &rt,
+            words,
+            &mut HostFiles::new(&rt),
+            &mut input,
+            &mut output,
+            &mut errors,
+            &progress,
+        );
+        meter.end(&rt, &mut rt.stderr());
+        status
+    });
+    ExitCode::from(status)
+}
+
+// How the command of these words, if they were read, says how far it is.
+fn way_asked(words: &Result<Vec<String>, Fault<'static>>, is_terminal: bool) -> Option<Way> {
+    match words {
+        Ok(words) => way_of(words, is_terminal),
+        Err(_) => None,
+    }
 }
 
 // Whether the words, if they were read, are those of a command that may read a schedule.

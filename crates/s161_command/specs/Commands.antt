@@ -69,6 +69,10 @@ threads_rule = optional_rule (codes "threads") 0 1_000_000
 abbrev pub burst_rule : Rule
 burst_rule = optional_rule (codes "burst") 1 1_024
 
+-- whether a command says how far it is, where standard error is no terminal
+abbrev pub progress_rule : Rule
+progress_rule = flag_rule (codes "progress")
+
 -- what `ll` links a processor to
 abbrev pub link_rule : Rule
 link_rule = record (text_rule (codes "link")) { defaults = codes "word" ∷ [] }
@@ -107,14 +111,15 @@ on_image name = with_rule (new_app name) (file_rule (codes "image"))
 -- the arguments of `run`, without those of an order: an image and options
 abbrev pub plain_run_line : App
 plain_run_line =
-    with_rule (with_rule (with_rule (with_rule (with_rule (with_rule
+    with_rule (with_rule (with_rule (with_rule (with_rule (with_rule (with_rule
     (with_named_size_rules (codes "65536") (on_image (codes "run")))
     (flag_rule (codes "show-log")))
     (flag_rule (codes "only-log")))
     (flag_rule (codes "only-output")))
     (flag_rule (codes "traps")))
     threads_rule)
-    burst_rule
+    burst_rule)
+    progress_rule
 
 -- the arguments of `run`; a driven run has at most as many events as any run
 abbrev pub run_line : App
@@ -129,7 +134,7 @@ console_line =
 -- the arguments of `search`, without those of a driven run: an image and options
 abbrev pub plain_search_line : App
 plain_search_line =
-    with_rule (with_rule (with_rule (with_rule (with_rule (with_rule (with_rule (with_rule (with_rule (with_rule
+    with_rule (with_rule (with_rule (with_rule (with_rule (with_rule (with_rule (with_rule (with_rule (with_rule (with_rule
     (with_named_size_rules (codes "65536") (on_image (codes "search")))
     (optional_rule (codes "seeds") 1 4_294_967_295))
     (optional_rule (codes "delays") 0 64))
@@ -140,7 +145,8 @@ plain_search_line =
     (texts_rule (codes "never")))
     (text_rule (codes "output")))
     (optional_rule (codes "hung") 0 4_294_967_295))
-    (flag_rule (codes "whole"))
+    (flag_rule (codes "whole")))
+    progress_rule
 
 -- the arguments of `search`; a schedule has at most 16,777,216 events
 abbrev pub search_line : App
@@ -149,7 +155,7 @@ search_line = with_pace_rules 16_777_216 (with_priority_rules plain_search_line)
 -- the arguments of `explore`: an image and options
 abbrev pub explore_line : App
 explore_line =
-    with_rule (with_rule (with_rule (with_rule (with_rule (with_rule (with_rule (with_rule (with_rule
+    with_rule (with_rule (with_rule (with_rule (with_rule (with_rule (with_rule (with_rule (with_rule (with_rule
     (on_image (codes "explore"))
     (number_rule (codes "ram") (codes "1048576")))
     (number_rule (codes "cpus") (codes "1")))
@@ -159,7 +165,8 @@ explore_line =
     (texts_rule (codes "never")))
     (text_rule (codes "output")))
     (text_rule (codes "keys")))
-    (optional_rule (codes "states") 1 4_294_967_295)
+    (optional_rule (codes "states") 1 4_294_967_295))
+    progress_rule
 
 -- the arguments of `schedule`: an image and options; a schedule has at most 16,777,216 events
 abbrev pub schedule_line : App
@@ -193,8 +200,9 @@ files_line name text log = with_named_size_rules log (with_rule (on_image name) 
 -- the arguments of `replay`: an image, a log and options
 abbrev pub replay_line : App
 replay_line =
-    with_asked_size_rules (codes "65536")
-    (with_rule (on_image (codes "replay")) (file_rule (codes "entries")))
+    with_rule (with_asked_size_rules (codes "65536")
+    (with_rule (on_image (codes "replay")) (file_rule (codes "entries"))))
+    progress_rule
 
 -- the name of a file that may be left out
 abbrev pub optional_file_rule : Text → Rule
@@ -223,7 +231,8 @@ gdb_line = with_pace_rules 16_777_216 (with_order_rules (listed_line (codes "gdb
 
 -- the arguments of `audit`: an image, watches and options
 abbrev pub audit_line : App
-audit_line = files_line (codes "audit") (codes "watches") (codes "65536")
+audit_line =
+    with_rule (files_line (codes "audit") (codes "watches") (codes "65536")) progress_rule
 
 -- the argument of `as`: an option
 abbrev pub as_line : App

@@ -14,7 +14,7 @@ use crate::options::{
     AFTER, ASKED_CPUS, ASKED_LINK, ASKED_RAM, ASKED_STRICT, BURST, CHANGES, COUNT, CPUS, DEBUG_LOG,
     DELAYED, DELAYED_TURNS, DELAYS, ENTRIES, EVENTS, EXPLORED_KEYS, FILE, FIRST_EVENT, FIRST_RUN,
     GAP, HUNG, IMAGE, JOBS, KEYS, LABELS, LINK, LISTED_EVENTS, LOADS, LOG, NAMES, NEVER, ONLY,
-    ONLY_LOG, ONLY_OUTPUT, OUTCOMES, OUTPUT, RAM, RANDOM, SEARCH_WITHIN, SEEDS, SHARED, SHOW_LOG,
+    ONLY_LOG, ONLY_OUTPUT, OUTCOMES, OUTPUT, PROGRESS, RAM, RANDOM, SEARCH_WITHIN, SEEDS, SHARED, SHOW_LOG,
     STATES, STRICT, SYMBOLS, THREADS, TOUCHES, TRANSFER, TRAPS, TURNS, WATCHES, WATCHES_FILE,
     WHOLE, WITHIN,
 };
@@ -87,6 +87,7 @@ static RUN: Line = Line {
         TRAPS,
         THREADS,
         BURST,
+        PROGRESS,
         TURNS,
         DELAYED,
         RANDOM,
@@ -152,6 +153,7 @@ static SEARCH: Line = Line {
         OUTPUT,
         HUNG,
         WHOLE,
+        PROGRESS,
         CHANGES,
         SEARCH_WITHIN,
         LISTED_EVENTS,
@@ -176,6 +178,7 @@ static EXPLORE: Line = Line {
         OUTPUT,
         EXPLORED_KEYS,
         STATES,
+        PROGRESS,
     ],
 };
 
@@ -214,7 +217,7 @@ static TRACE: Line = Line {
 static REPLAY: Line = Line {
     name: "replay",
     about: "Makes a log's events once more, and compares their outcomes",
-    arguments: &[IMAGE, ENTRIES, ASKED_RAM, ASKED_CPUS, LOG],
+    arguments: &[IMAGE, ENTRIES, ASKED_RAM, ASKED_CPUS, LOG, PROGRESS],
 };
 
 static DEBUG: Line = Line {
@@ -278,6 +281,7 @@ static AUDIT: Line = Line {
         LOG,
         ASKED_LINK,
         ASKED_STRICT,
+        PROGRESS,
     ],
 };
 

@@ -167,6 +167,16 @@ pub(crate) const ONLY_OUTPUT: Argument = Argument {
     required: false,
 };
 
+/// Whether a command says how far it is, where standard error is no terminal.
+pub(crate) const PROGRESS: Argument = Argument {
+    name: "progress",
+    kind: Kind::Flag,
+    shown: "",
+    help: "Says on standard error how far it is, a line a second; at a terminal it always does, in one line",
+    default: None,
+    required: false,
+};
+
 /// How many Steps each processor makes in a thread of its own.
 pub(crate) const THREADS: Argument = Argument {
     name: "threads",

@@ -7,7 +7,7 @@ ghost use Rattle.s161_run.specs.Replays.{IsReplayed, IsReplayFault, replay_files
 ghost use Rattle.s161_base.specs.Samples.{image_file};
 
 use m161::{Console, Tlb};
-use m161_steplog::{Comparison, verify};
+use m161_steplog::{Comparison, verify_with};
 use s161_base::fault::Fault;
 use s161_base::files::FileSource;
 use s161_base::finished::Finished;
@@ -16,6 +16,7 @@ use s161_base::machines::{NamedMachine, asked_conf, machine_fault};
 use s161_base::sample::read_image;
 use s161_base::texts::log_of;
 use s161_command::ReplayTask;
+use s161_progress::{Progress, Unit};
 use std::alloc::{AllocError, Global};
 
 /// Reads the image and then the log, boots the image, on the machine that the log names, and makes
@@ -30,6 +31,7 @@ pub fn replay<'a, F: FileSource>(
     alloc: Global,
     files: &mut F,
     task: ReplayTask<'a>,
+    progress: &Progress,
 ) -> Result<Finished, Fault<'a>>
     ensures ok { IfOk result (λ done. IsReplayed task.entry
         (image_file (F.known files.old) task.entry.image.now)
@@ -50,7 +52,9 @@ pub fn replay<'a, F: FileSource>(
         return Err(fault);
     }
     let conf = asked_conf(task.size, named);
-    let verdict = verify::<Tlb, Console>(alloc, image, conf, &log.entries)?;
+    progress.begin(Unit::Events, Some(log.entries.len() as u64));
+    let verdict =
+        verify_with::<Tlb, Console, Progress>(alloc, image, conf, &log.entries, progress)?;
     let shown = verdict_line(alloc, verdict)?;
     Ok(Finished {
         text: shown.into_bytes(),

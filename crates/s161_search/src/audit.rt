@@ -10,7 +10,7 @@ ghost use Rattle.s161_base.specs.Samples.{image_file};
 
 use crate::watches::watches_of;
 use m161::{Console, Core, Tlb};
-use m161_audit::{AuditError, Finding, audit_events};
+use m161_audit::{AuditError, Finding, audit_events_with};
 use m161_machine::{Conf, Events};
 use m161_refusals::{Refusals, find_refusals};
 use m161_text::Word;
@@ -21,6 +21,7 @@ use s161_base::input::{read_input, read_text};
 use s161_base::listed::{Planned, plan_run};
 use s161_base::sample::read_image;
 use s161_command::FilesTask;
+use s161_progress::{Progress, Unit};
 use std::alloc::{AllocError, Global};
 use std::fmt;
 use std::io::Read;
@@ -130,6 +131,7 @@ pub fn audit<'a, F: FileSource, I: Read>(
     files: &mut F,
     input: &mut I,
     task: FilesTask<'a>,
+    progress: &Progress,
     said: &mut String,
 ) -> Result<Finished, Fault<'a>>
     ensures ok { IfOk result (λ done. IsAudited task.entry
@@ -150,7 +152,10 @@ pub fn audit<'a, F: FileSource, I: Read>(
     let watches = watches_of(alloc, text.as_str())?;
     let run = plan_run(alloc, task.size, &file, schedule.as_str())?;
     let Planned { events, conf } = run;
-    let finding = match audit_events::<Tlb, Console>(alloc, &file, conf, &events, &watches) {
+    progress.begin(Unit::Events, Some(events.len() as u64));
+    let finding = match audit_events_with::<Tlb, Console, Progress>(
+        alloc, &file, conf, &events, &watches, progress,
+    ) {
         Ok(finding) => finding,
         Err(error) => return Err(fault_of_audit(error)),
     };

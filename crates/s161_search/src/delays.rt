@@ -10,33 +10,23 @@ ghost use Rattle.s161_search.specs.helpers.Inputs.{given_of};
 ghost use Rattle.s161_search.specs.helpers.Points.{IsPointOf};
 ghost use Rattle.s161_search.specs.helpers.Tried.{IsSearchedBy};
 
-use crate::inputs::Inputs;
+use crate::basis::Basis;
 use crate::orders::{WrongRun, policy_of, run_from, tested};
 use crate::points::{RunPoint, go_along};
-use crate::start::Start;
-use m161::{Console, Tlb};
 use m161_delays::{Class, Delays, Runs, Searched, Tested, search_lists};
 use m161_drive::Policy;
 use m161_order::Order;
-use m161_reach::{Machines, hanging_are_made};
+use m161_reach::hanging_are_made;
 use s161_base::fault::Fault;
-use s161_command::{DelayClass, SearchTask};
-use std::alloc::Global;
+use s161_command::DelayClass;
+use s161_progress::Unit;
 use std::thread::Threads;
 
 /// Makes the runs of lists of delays.
 #[derive(Drop)]
 pub(crate) struct DelayedRuns<'a, 'b> {
-    /// Where memory comes from.
-    pub alloc: Global,
-    /// Where they begin.
-    pub start: &'b Start,
-    /// What is searched.
-    pub task: SearchTask<'a>,
-    /// What was read.
-    pub inputs: &'b Inputs,
-    /// What is asked of the states behind a run.
-    pub ends: &'b Machines<'b, Tlb, Console>,
+    /// What they are made over.
+    pub basis: &'b Basis<'a, 'b>,
     /// How many Steps a turn has.
     pub turns: u32,
 }
@@ -45,20 +35,20 @@ impl<'a, 'b> DelayedRuns<'a, 'b> {
     // The policy of a list's run.
     fn policy(&self, delays: &Delays) -> Result<Policy<'b>, Fault<'a>>
         ensures ok { IfOk result (λ policy. policy
-            ≡ rules_of (record self.now.task.drive { order = Delayed self.now.turns delays.now }) (given_of self.now.inputs.now).keys) }
+            ≡ rules_of (record self.now.basis.now.task.drive { order = Delayed self.now.turns delays.now }) (given_of self.now.basis.now.inputs.now).keys) }
         ensures err { IfErr result (λ fault. fault ≡ faults.Memory) }
     {
         let order = Order::Delayed {
             turns: self.turns,
             delays: *delays,
         };
-        policy_of(self.task, self.inputs, order)
+        policy_of(self.basis.task, self.basis.inputs, order)
     }
 
     // A point goes back to the start, from which every list's run goes on.
     fn start_again(&self, point: &mut RunPoint) -> Result<(), Fault<'a>>
         ensures ok { OnOk result ((numbers : List ℕ)
-            → IsPointOf self.now.start.now self.now.task (given_of self.now.inputs.now) self.now.turns numbers point.new) }
+            → IsPointOf self.now.basis.now.start.now self.now.basis.now.task (given_of self.now.basis.now.inputs.now) self.now.turns numbers point.new) }
         ensures err { IfErr result IsNoMemory }
     {
         *point = self.start()?;
@@ -79,33 +69,33 @@ impl<'a, 'b> Runs for DelayedRuns<'a, 'b> {
 
     type Point = RunPoint;
 
-    ghost is_on = { λ r. IsPointOf r.start.now r.task (given_of r.inputs.now) r.turns };
+    ghost is_on = { λ r. IsPointOf r.basis.now.start.now r.basis.now.task (given_of r.basis.now.inputs.now) r.turns };
 
-    ghost offers = { λ r. offered_by r.task (given_of r.inputs.now) r.turns r.start.now.core.value.state };
+    ghost offers = { λ r. offered_by r.basis.now.task (given_of r.basis.now.inputs.now) r.turns r.basis.now.start.now.core.value.state };
 
-    ghost right = { λ r. IsRightFrom r.start.now r.ends.now r.task (given_of r.inputs.now) r.turns };
+    ghost right = { λ r. IsRightFrom r.basis.now.start.now r.basis.now.ends.now r.basis.now.task (given_of r.basis.now.inputs.now) r.turns };
 
-    ghost wrong = { λ r. IsWrongFrom r.start.now r.ends.now r.task (given_of r.inputs.now) r.turns };
+    ghost wrong = { λ r. IsWrongFrom r.basis.now.start.now r.basis.now.ends.now r.basis.now.task (given_of r.basis.now.inputs.now) r.turns };
 
     ghost fails = { λ r. IsNoMemory };
 
     fn offers(&self, delays: &Delays, counts: &mut Vec<u8>) -> Result<(), Fault<'a>> {
         let policy = self.policy(delays)?;
-        let mut core = self.start.core.copy(self.alloc)?;
-        m161_places::offers(&mut core, &policy, self.inputs.most(self.task), counts)?;
+        let mut core = self.basis.start.core.copy(self.basis.alloc)?;
+        m161_places::offers(&mut core, &policy, self.basis.inputs.most(self.basis.task), counts)?;
         Ok(())
     }
 
     fn start(&self) -> Result<RunPoint, Fault<'a>> {
         let policy = self.policy(&Delays::none())?;
-        Ok(RunPoint::start(self.alloc, self.start, &policy)?)
+        Ok(RunPoint::start(self.basis.alloc, self.basis.start, &policy)?)
     }
 
     fn copy(&self, point: &RunPoint) -> Result<RunPoint, Fault<'a>> {
         let Some(cursor) = point.cursor_of(&Delays::none()) else {
             return self.start();
         };
-        let run = point.copy_run(self.alloc)?;
+        let run = point.copy_run(self.basis.alloc)?;
         Ok(RunPoint {
             core: run.core,
             cursor,
@@ -128,8 +118,8 @@ impl<'a, 'b> Runs for DelayedRuns<'a, 'b> {
             passed,
             steps,
         } = point;
-        let chosen = events.len().saturating_sub(self.start.events.len());
-        let left = self.inputs.most(self.task).saturating_sub(chosen as u64);
+        let chosen = events.len().saturating_sub(self.basis.start.events.len());
+        let left = self.basis.inputs.most(self.basis.task).saturating_sub(chosen as u64);
         let more = place.saturating_sub(*passed);
         match go_along(
             core,
@@ -139,7 +129,7 @@ impl<'a, 'b> Runs for DelayedRuns<'a, 'b> {
             more,
             events,
             steps,
-            self.inputs,
+            self.basis.inputs,
         )? {
             Some(made) => {
                 *passed += made;
@@ -151,24 +141,37 @@ impl<'a, 'b> Runs for DelayedRuns<'a, 'b> {
 
     fn judge_from(&self, delays: &Delays, point: &RunPoint) -> Result<Tested<WrongRun>, Fault<'a>> {
         let run = run_from(
-            self.alloc,
-            self.start,
-            self.task,
-            self.inputs,
+            self.basis.alloc,
+            self.basis.start,
+            self.basis.task,
+            self.basis.inputs,
             self.turns,
             delays,
             point,
         )?;
         // So that the proof knows that events which hang were all accepted.
         hanging_are_made();
-        Ok(tested(self.alloc, self.ends, self.task.hung, run)?)
+        let tested = tested(self.basis.alloc, self.basis.ends, self.basis.task.hung, run)?;
+        self.basis.progress.add(1);
+        Ok(tested)
     }
 
     fn refused(&self) -> Fault<'a> {
         Fault::Memory
     }
 
-    ghost alike = { λ r. offers_alike r.task (given_of r.inputs.now) r.turns r.start.now.core.value.state };
+    ghost alike = { λ r. offers_alike r.basis.now.task (given_of r.basis.now.inputs.now) r.turns r.basis.now.start.now.core.value.state };
+}
+
+/// The class of lists that a command line asks for.
+pub(crate) fn lists_of(class: DelayClass) -> Class
+    ensures { result ≡ class_of class }
+{
+    Class {
+        most: class.most,
+        from: class.from,
+        within: class.within,
+    }
 }
 
 /// Makes the runs of the useful lists of a class, up to the first that goes wrong.
@@ -177,31 +180,15 @@ impl<'a, 'b> Runs for DelayedRuns<'a, 'b> {
 /// A run can't be made.
 pub(crate) fn try_lists<'a, R: Threads + Sync>(
     rt: &R,
-    alloc: Global,
-    start: &Start,
-    task: SearchTask<'a>,
-    inputs: &Inputs,
-    ends: &Machines<'_, Tlb, Console>,
-    turns: u32,
+    runs: &DelayedRuns<'a, '_>,
     class: DelayClass,
 ) -> Result<Searched<WrongRun>, Fault<'a>>
-    requires begins { BeginsBehind (given_of inputs.now) start.now ends.now }
+    requires begins { BeginsBehind (given_of runs.now.basis.now.inputs.now) runs.now.basis.now.start.now runs.now.basis.now.ends.now }
     requires few { class.most ≤ 64 }
-    ensures ok { IfOk result (IsSearchedBy task.entry (given_of inputs.now) turns (class_of class)) }
+    ensures ok { IfOk result (IsSearchedBy runs.now.basis.now.task (given_of runs.now.basis.now.inputs.now) runs.now.turns (class_of class)) }
     ensures fault { IfErr result IsNoMemory }
 {
-    let runs = DelayedRuns {
-        alloc,
-        start,
-        task,
-        inputs,
-        ends,
-        turns,
-    };
-    let lists = Class {
-        most: class.most,
-        from: class.from,
-        within: class.within,
-    };
-    search_lists(rt, alloc, &runs, lists, task.jobs)
+    let basis = runs.basis;
+    basis.progress.begin(Unit::Runs, None);
+    search_lists(rt, basis.alloc, runs, lists_of(class), basis.task.jobs)
 }

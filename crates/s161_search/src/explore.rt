@@ -24,12 +24,13 @@ use crate::seeds::boot;
 use m161::{Console, Core, Tlb};
 use m161_judge::{Booted, Goal};
 use m161_order::Order;
-use m161_reach::{Exploration, can_be_asked, explore_machine};
+use m161_reach::{Exploration, can_be_asked, explore_machine_with};
 use m161_stores::unstored_watches;
 use s161_base::fault::Fault;
 use s161_base::files::FileSource;
 use s161_base::finished::Finished;
 use s161_command::{AskedSize, Drive, ExploreTask, SearchTask, Size};
+use s161_progress::{Progress, Unit};
 use std::alloc::{AllocError, Global};
 
 // A machine of this size is asked for.
@@ -83,6 +84,7 @@ pub fn explore<'a, F: FileSource>(
     files: &mut F,
     task: ExploreTask<'a>,
     never: &[&'a str],
+    progress: &Progress,
     said: &mut String,
 ) -> Result<Finished, Fault<'a>>
     ensures ok { IfOk result (λ done. IsExplored task.entry (map (λ word. word.now) never.now) (F.known files.old)
@@ -93,7 +95,8 @@ pub fn explore<'a, F: FileSource>(
         (F.asked files.new) }
     ensures within { IfOk result (λ done. (done.status ≤ 6) × (done.status ≢ 2)) }
 {
-    explore_by(alloc, files, as_search(task), limit_of(task), never, said)
+    let limit = limit_of(task);
+    explore_by(alloc, files, as_search(task), limit, never, progress, said)
 }
 
 // Reads what a search would, and explores it.
@@ -103,6 +106,7 @@ fn explore_by<'a, F: FileSource>(
     search: SearchTask<'a>,
     limit: u32,
     never: &[&'a str],
+    progress: &Progress,
     said: &mut String,
 ) -> Result<Finished, Fault<'a>>
     requires { 0 < limit }
@@ -115,7 +119,7 @@ fn explore_by<'a, F: FileSource>(
     ensures within { IfOk result (λ done. (done.status ≤ 6) × (done.status ≢ 2)) }
 {
     let inputs = read_inputs(alloc, files, search)?;
-    explore_in(alloc, search, limit, never, inputs, said)
+    explore_in(alloc, search, limit, never, inputs, progress, said)
 }
 
 // Explores what was read.
@@ -126,6 +130,7 @@ fn explore_in<'a>(
     limit: u32,
     never: &[&'a str],
     inputs: Inputs,
+    progress: &Progress,
     said: &mut String,
 ) -> Result<Finished, Fault<'a>>
     requires { 0 < limit }
@@ -135,7 +140,7 @@ fn explore_in<'a>(
 {
     let booted = boot(alloc, &inputs)?;
     let inputs = with_never(alloc, &booted, search, never, inputs)?;
-    explore_from(alloc, &booted, limit, &inputs, said)
+    explore_from(alloc, &booted, limit, &inputs, progress, said)
 }
 
 // Explores a machine, and says to which words of watches no Step stores.
@@ -144,6 +149,7 @@ fn explore_core<'a>(
     core: &'a Core,
     goal: &'a Goal<'a>,
     limit: u32,
+    progress: &Progress,
     said: &mut String,
 ) -> Result<Exploration, AllocError>
     requires asked { CanBeAsked core.now.state goal.now }
@@ -155,7 +161,8 @@ fn explore_core<'a>(
     ensures said { IfOk result (λ found. Notes (TellsStores (question_of core.now.state goal.now found.known) found.answer)
         goal.now.watches (string_bytes said.new)) }
 {
-    let found = explore_machine(alloc, core, goal, limit)?;
+    progress.begin(Unit::States, None);
+    let found = explore_machine_with(alloc, core, goal, limit, progress)?;
     let unstored = unstored_watches(alloc, core, goal, limit, &found)?;
     *said = notes_text(alloc, &unstored)?;
     Ok(found)
@@ -168,6 +175,7 @@ fn explore_from<'a>(
     booted: &Booted<Tlb, Console>,
     limit: u32,
     inputs: &Inputs,
+    progress: &Progress,
     said: &mut String,
 ) -> Result<Finished, Fault<'a>>
     requires booted { BeginsAt (given_of inputs.now) booted.now }
@@ -183,7 +191,7 @@ fn explore_from<'a>(
     if !can_be_asked(&core, &goal) {
         return Err(Fault::Memory);
     }
-    let found = explore_core(alloc, &core, &goal, limit, said)?;
+    let found = explore_core(alloc, &core, &goal, limit, progress, said)?;
     Ok(print_answer(
         alloc,
         inputs.first.conf,

@@ -6,6 +6,7 @@
 mod again;
 mod answers;
 pub mod audit;
+mod basis;
 mod delays;
 pub mod explore;
 mod found;

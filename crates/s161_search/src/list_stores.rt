@@ -8,32 +8,25 @@ ghost use Rattle.s161_search.specs.helpers.Begun.{BeginsAt, IsStarted};
 ghost use Rattle.s161_search.specs.helpers.Delayed.{IsNoMemory};
 ghost use Rattle.s161_search.specs.helpers.Inputs.{given_of};
 
-use crate::delays::DelayedRuns;
-use crate::inputs::Inputs;
+use crate::delays::{DelayedRuns, lists_of};
 use crate::orders::run_from;
 use crate::points::RunPoint;
 use crate::seed_stores::{push_unstored, run_stores};
-use crate::start::Start;
-use m161::{Console, Tlb};
 use m161_audit::Watch;
-use m161_delays::{Class, Delays, Runs, Searched, Tested, search_lists};
-use m161_judge::Booted;
-use m161_reach::Machines;
+use m161_delays::{Delays, Runs, Searched, Tested, search_lists};
 use m161_stores::Unstored;
 use s161_base::fault::Fault;
-use s161_command::{DelayClass, SearchTask};
-use std::alloc::Global;
+use s161_command::DelayClass;
 use std::thread::Threads;
 
 /// Looks for a store to a word in the runs of lists of delays.
 #[derive(Drop)]
-struct ListStores<'a, 'b> {
-    booted: &'b Booted<Tlb, Console>,
-    runs: DelayedRuns<'a, 'b>,
+struct ListStores<'a, 'b, 'c> {
+    runs: &'c DelayedRuns<'a, 'b>,
     word: u32,
 }
 
-impl<'a, 'b> Runs for ListStores<'a, 'b> {
+impl<'a, 'b, 'c> Runs for ListStores<'a, 'b, 'c> {
     ghost use Rattle.std.specs.Prelude.{true, false};
     ghost use Rattle.s161_search.specs.Delays.{offered_by};
     ghost use Rattle.s161_search.specs.helpers.Delayed.{IsNoMemory};
@@ -48,46 +41,46 @@ impl<'a, 'b> Runs for ListStores<'a, 'b> {
 
     type Point = RunPoint;
 
-    ghost is_on = { λ r. IsPointOf r.runs.start.now r.runs.task (given_of r.runs.inputs.now) r.runs.turns };
+    ghost is_on = { λ r. IsPointOf r.runs.now.basis.now.start.now r.runs.now.basis.now.task (given_of r.runs.now.basis.now.inputs.now) r.runs.now.turns };
 
-    ghost offers = { λ r. offered_by r.runs.task (given_of r.runs.inputs.now) r.runs.turns r.runs.start.now.core.value.state };
+    ghost offers = { λ r. offered_by r.runs.now.basis.now.task (given_of r.runs.now.basis.now.inputs.now) r.runs.now.turns r.runs.now.basis.now.start.now.core.value.state };
 
     ghost right = { λ r numbers is_cut.
-        ListStoresFrom r.booted.now r.runs.start.now r.runs.task (given_of r.runs.inputs.now) r.runs.turns r.word numbers false };
+        ListStoresFrom r.runs.now.basis.now.booted.now r.runs.now.basis.now.start.now r.runs.now.basis.now.task (given_of r.runs.now.basis.now.inputs.now) r.runs.now.turns r.word numbers false };
 
     ghost wrong = { λ r numbers found.
-        ListStoresFrom r.booted.now r.runs.start.now r.runs.task (given_of r.runs.inputs.now) r.runs.turns r.word numbers true };
+        ListStoresFrom r.runs.now.basis.now.booted.now r.runs.now.basis.now.start.now r.runs.now.basis.now.task (given_of r.runs.now.basis.now.inputs.now) r.runs.now.turns r.word numbers true };
 
     ghost fails = { λ r. IsNoMemory };
 
     fn offers(&self, delays: &Delays, counts: &mut Vec<u8>) -> Result<(), Fault<'a>> {
-        Runs::offers(&self.runs, delays, counts)
+        Runs::offers(self.runs, delays, counts)
     }
 
     fn start(&self) -> Result<RunPoint, Fault<'a>> {
-        Runs::start(&self.runs)
+        Runs::start(self.runs)
     }
 
     fn copy(&self, point: &RunPoint) -> Result<RunPoint, Fault<'a>> {
-        Runs::copy(&self.runs, point)
+        Runs::copy(self.runs, point)
     }
 
     fn advance(&self, delays: &Delays, place: u32, point: &mut RunPoint) -> Result<(), Fault<'a>> {
-        Runs::advance(&self.runs, delays, place, point)
+        Runs::advance(self.runs, delays, place, point)
     }
 
     fn judge_from(&self, delays: &Delays, point: &RunPoint) -> Result<Tested<()>, Fault<'a>> {
-        let runs = &self.runs;
+        let basis = self.runs.basis;
         let run = run_from(
-            runs.alloc,
-            runs.start,
-            runs.task,
-            runs.inputs,
-            runs.turns,
+            basis.alloc,
+            basis.start,
+            basis.task,
+            basis.inputs,
+            self.runs.turns,
             delays,
             point,
         )?;
-        if run_stores(runs.alloc, self.booted, &run, self.word)? {
+        if run_stores(basis.alloc, basis.booted, &run, self.word)? {
             Ok(Tested::Wrong(()))
         } else {
             Ok(Tested::Right { is_cut: false })
@@ -98,43 +91,25 @@ impl<'a, 'b> Runs for ListStores<'a, 'b> {
         Fault::Memory
     }
 
-    ghost alike = { λ r. offers_alike r.runs.task (given_of r.runs.inputs.now) r.runs.turns r.runs.start.now.core.value.state };
+    ghost alike = { λ r. offers_alike r.runs.now.basis.now.task (given_of r.runs.now.basis.now.inputs.now) r.runs.now.turns r.runs.now.basis.now.start.now.core.value.state };
 }
 
 // Whether no Step of the runs of the useful lists of a class stores to a word.
 fn lists_unstored<'a, R: Threads + Sync>(
     rt: &R,
-    alloc: Global,
-    booted: &Booted<Tlb, Console>,
-    start: &Start,
-    task: SearchTask<'a>,
-    inputs: &Inputs,
-    ends: &Machines<'_, Tlb, Console>,
-    turns: u32,
+    runs: &DelayedRuns<'a, '_>,
     class: DelayClass,
     word: u32,
 ) -> Result<bool, Fault<'a>>
-    requires booted { BeginsAt (given_of inputs.now) booted.now }
-    requires started { IsStarted (given_of inputs.now) booted.now start.now }
+    requires booted { BeginsAt (given_of runs.now.basis.now.inputs.now) runs.now.basis.now.booted.now }
+    requires started { IsStarted (given_of runs.now.basis.now.inputs.now) runs.now.basis.now.booted.now runs.now.basis.now.start.now }
     requires few { class.most ≤ 64 }
-    ensures ok { IfOk result (ListsUnstored task.entry (given_of inputs.now) turns (class_of class) word) }
+    ensures ok { IfOk result (ListsUnstored runs.now.basis.now.task (given_of runs.now.basis.now.inputs.now) runs.now.turns (class_of class) word) }
     ensures fault { IfErr result IsNoMemory }
 {
-    let runs = DelayedRuns {
-        alloc,
-        start,
-        task,
-        inputs,
-        ends,
-        turns,
-    };
-    let lists = Class {
-        most: class.most,
-        from: class.from,
-        within: class.within,
-    };
-    let stores = ListStores { booted, runs, word };
-    match search_lists(rt, alloc, &stores, lists, task.jobs)? {
+    let basis = runs.basis;
+    let stores = ListStores { runs, word };
+    match search_lists(rt, basis.alloc, &stores, lists_of(class), basis.task.jobs)? {
         Searched::Clean { .. } => Ok(true),
         Searched::Wrong { .. } => Ok(false),
     }
@@ -143,32 +118,22 @@ fn lists_unstored<'a, R: Threads + Sync>(
 // To which words of a watch none stores.
 fn watch_by_lists<'a, R: Threads + Sync>(
     rt: &R,
-    alloc: Global,
-    booted: &Booted<Tlb, Console>,
-    start: &Start,
-    task: SearchTask<'a>,
-    inputs: &Inputs,
-    ends: &Machines<'_, Tlb, Console>,
-    turns: u32,
+    runs: &DelayedRuns<'a, '_>,
     class: DelayClass,
     watch: &Watch,
 ) -> Result<Unstored, Fault<'a>>
-    requires booted { BeginsAt (given_of inputs.now) booted.now }
-    requires started { IsStarted (given_of inputs.now) booted.now start.now }
+    requires booted { BeginsAt (given_of runs.now.basis.now.inputs.now) runs.now.basis.now.booted.now }
+    requires started { IsStarted (given_of runs.now.basis.now.inputs.now) runs.now.basis.now.booted.now runs.now.basis.now.start.now }
     requires few { class.most ≤ 64 }
     ensures pte { IfOk result (λ unstored.
-        ListsUnstored task.entry (given_of inputs.now) turns (class_of class) watch.now.pte unstored.pte) }
+        ListsUnstored runs.now.basis.now.task (given_of runs.now.basis.now.inputs.now) runs.now.turns (class_of class) watch.now.pte unstored.pte) }
     ensures done { IfOk result (λ unstored.
-        ListsUnstored task.entry (given_of inputs.now) turns (class_of class) watch.now.done unstored.done) }
+        ListsUnstored runs.now.basis.now.task (given_of runs.now.basis.now.inputs.now) runs.now.turns (class_of class) watch.now.done unstored.done) }
     ensures fault { IfErr result IsNoMemory }
 {
     Ok(Unstored {
-        pte: lists_unstored(
-            rt, alloc, booted, start, task, inputs, ends, turns, class, watch.pte,
-        )?,
-        done: lists_unstored(
-            rt, alloc, booted, start, task, inputs, ends, turns, class, watch.done,
-        )?,
+        pte: lists_unstored(rt, runs, class, watch.pte)?,
+        done: lists_unstored(rt, runs, class, watch.done)?,
     })
 }
 
@@ -179,37 +144,20 @@ fn watch_by_lists<'a, R: Threads + Sync>(
 /// Memory was refused.
 pub(crate) fn unstored_by_lists<'a, R: Threads + Sync>(
     rt: &R,
-    alloc: Global,
-    booted: &Booted<Tlb, Console>,
-    start: &Start,
-    task: SearchTask<'a>,
-    inputs: &Inputs,
-    ends: &Machines<'_, Tlb, Console>,
-    turns: u32,
+    runs: &DelayedRuns<'a, '_>,
     class: DelayClass,
     watches: &[Watch],
 ) -> Result<Vec<Unstored>, Fault<'a>>
-    requires booted { BeginsAt (given_of inputs.now) booted.now }
-    requires started { IsStarted (given_of inputs.now) booted.now start.now }
+    requires booted { BeginsAt (given_of runs.now.basis.now.inputs.now) runs.now.basis.now.booted.now }
+    requires started { IsStarted (given_of runs.now.basis.now.inputs.now) runs.now.basis.now.booted.now runs.now.basis.now.start.now }
     requires few { class.most ≤ 64 }
     ensures ok { IfOk result (λ unstored.
-        AreUnstored (ListsUnstored task.entry (given_of inputs.now) turns (class_of class)) watches.now unstored.items) }
+        AreUnstored (ListsUnstored runs.now.basis.now.task (given_of runs.now.basis.now.inputs.now) runs.now.turns (class_of class)) watches.now unstored.items) }
     ensures fault { IfErr result IsNoMemory }
 {
-    let mut unstored = Vec::new(alloc);
+    let mut unstored = Vec::new(runs.basis.alloc);
     for i in 0..watches.len() {
-        let one = watch_by_lists(
-            rt,
-            alloc,
-            booted,
-            start,
-            task,
-            inputs,
-            ends,
-            turns,
-            class,
-            &watches[i],
-        )?;
+        let one = watch_by_lists(rt, runs, class, &watches[i])?;
         push_unstored(&mut unstored, one)?;
     }
     Ok(unstored)

@@ -20,7 +20,8 @@ ghost use Rattle.s161_search.specs.Told.{IsRunTold};
 ghost use Rattle.s161_search.specs.helpers.Telling.{Begins};
 ghost use Rattle.s161_search.specs.helpers.Tried.{IsListed};
 
-use crate::delays::try_lists;
+use crate::basis::Basis;
+use crate::delays::{DelayedRuns, try_lists};
 use crate::found::print_of;
 use crate::inputs::{Inputs, read_inputs};
 use crate::list_stores::unstored_by_lists;
@@ -30,7 +31,7 @@ use crate::orders::WrongRun;
 use crate::points::start_core;
 use crate::seed_stores::unstored_by_seeds;
 use crate::seeds::{boot, seed_at, try_seeds};
-use crate::start::{Start, make_start};
+use crate::start::make_start;
 use crate::texts::{clean_line, delays_line, found_lines, seed_line};
 use m161::{Console, Tlb};
 use m161_delays::{Delays, Searched};
@@ -44,6 +45,7 @@ use s161_base::fault::Fault;
 use s161_base::files::FileSource;
 use s161_base::finished::Finished;
 use s161_command::{DelayClass, SearchTask};
+use s161_progress::Progress;
 use std::alloc::{AllocError, Global};
 use std::thread::Threads;
 
@@ -62,6 +64,7 @@ pub fn search<'a, R: Threads + Sync, F: FileSource>(
     files: &mut F,
     task: SearchTask<'a>,
     never: &[&'a str],
+    progress: &Progress,
     said: &mut String,
 ) -> Result<Finished, Fault<'a>>
     requires class { HasClassLimits task.drive.order task.delays }
@@ -74,7 +77,7 @@ pub fn search<'a, R: Threads + Sync, F: FileSource>(
     ensures within { IfOk result (λ done. (done.status ≤ 5) × (done.status ≢ 2)) }
 {
     let inputs = read_inputs(alloc, files, task)?;
-    search_in(rt, alloc, task, never, inputs, said)
+    search_in(rt, alloc, task, never, inputs, progress, said)
 }
 
 // Makes the runs of what was read.
@@ -85,6 +88,7 @@ fn search_in<'a, R: Threads + Sync>(
     task: SearchTask<'a>,
     never: &[&'a str],
     inputs: Inputs,
+    progress: &Progress,
     said: &mut String,
 ) -> Result<Finished, Fault<'a>>
     requires class { HasClassLimits task.drive.order task.delays }
@@ -95,7 +99,7 @@ fn search_in<'a, R: Threads + Sync>(
 {
     let booted = boot(alloc, &inputs)?;
     let inputs = with_never(alloc, &booted, task, never, inputs)?;
-    make_runs(rt, alloc, &booted, task, &inputs, said)
+    make_runs(rt, alloc, &booted, task, &inputs, progress, said)
 }
 
 // Makes the runs.
@@ -105,6 +109,7 @@ fn make_runs<'a, R: Threads + Sync>(
     booted: &Booted<Tlb, Console>,
     task: SearchTask<'a>,
     inputs: &Inputs,
+    progress: &Progress,
     said: &mut String,
 ) -> Result<Finished, Fault<'a>>
     requires booted { BeginsAt (given_of inputs.now) booted.now }
@@ -123,30 +128,34 @@ fn make_runs<'a, R: Threads + Sync>(
         return Err(Fault::Memory);
     }
     let ends = Machines::new(alloc, core, &goal, Known::nothing());
-    make_orders(rt, alloc, booted, &start, task, inputs, &ends, said)
+    let basis = Basis {
+        alloc,
+        booted,
+        start: &start,
+        task,
+        inputs,
+        ends: &ends,
+        progress,
+    };
+    make_orders(rt, &basis, said)
 }
 
 // Makes them by seeds or by delays.
 fn make_orders<'a, R: Threads + Sync>(
     rt: &R,
-    alloc: Global,
-    booted: &Booted<Tlb, Console>,
-    start: &Start,
-    task: SearchTask<'a>,
-    inputs: &Inputs,
-    ends: &Machines<'_, Tlb, Console>,
+    basis: &Basis<'a, '_>,
     said: &mut String,
 ) -> Result<Finished, Fault<'a>>
-    requires begins { Begins (given_of inputs.now) booted.now ends.now }
-    requires started { IsStarted (given_of inputs.now) booted.now start.now }
-    requires class { HasClassLimits task.drive.order task.delays }
-    ensures ok { IfOk result (λ done. Prints task.entry (given_of inputs.now) task.entry.delays done.text.items (string_bytes said.new) done.status) }
-    ensures fault { IfErr result (IsRunFault (given_of inputs.now)) }
+    requires begins { Begins (given_of basis.now.inputs.now) basis.now.booted.now basis.now.ends.now }
+    requires started { IsStarted (given_of basis.now.inputs.now) basis.now.booted.now basis.now.start.now }
+    requires class { HasClassLimits basis.now.task.drive.order basis.now.task.delays }
+    ensures ok { IfOk result (λ done. Prints basis.now.task (given_of basis.now.inputs.now) basis.now.task.delays done.text.items (string_bytes said.new) done.status) }
+    ensures fault { IfErr result (IsRunFault (given_of basis.now.inputs.now)) }
     ensures within { IfOk result (λ done. (done.status ≤ 5) × (done.status ≢ 2)) }
 {
-    match task.delays {
-        Some(class) => { by_delays(rt, alloc, booted, start, task, inputs, ends, class, said) }
-        None => by_seeds(rt, alloc, booted, start, task, inputs, ends, said),
+    match basis.task.delays {
+        Some(class) => by_delays(rt, basis, class, said),
+        None => by_seeds(rt, basis, said),
     }
 }
 
@@ -183,62 +192,52 @@ fn wrong_run(alloc: Global, text: Vec<u8>, said: &mut String) -> Finished
 #[tactic(auto, using(crate::proofs::Failing::memory_is_run))]
 fn by_seeds<'a, R: Threads + Sync>(
     rt: &R,
-    alloc: Global,
-    booted: &Booted<Tlb, Console>,
-    start: &Start,
-    task: SearchTask<'a>,
-    inputs: &Inputs,
-    ends: &Machines<'_, Tlb, Console>,
+    basis: &Basis<'a, '_>,
     said: &mut String,
 ) -> Result<Finished, Fault<'a>>
-    requires begins { Begins (given_of inputs.now) booted.now ends.now }
-    requires started { IsStarted (given_of inputs.now) booted.now start.now }
-    ensures ok { IfOk result (λ done. Prints task.entry (given_of inputs.now) None done.text.items (string_bytes said.new) done.status) }
-    ensures fault { IfErr result (IsRunFault (given_of inputs.now)) }
+    requires begins { Begins (given_of basis.now.inputs.now) basis.now.booted.now basis.now.ends.now }
+    requires started { IsStarted (given_of basis.now.inputs.now) basis.now.booted.now basis.now.start.now }
+    ensures ok { IfOk result (λ done. Prints basis.now.task (given_of basis.now.inputs.now) None done.text.items (string_bytes said.new) done.status) }
+    ensures fault { IfErr result (IsRunFault (given_of basis.now.inputs.now)) }
     ensures within { IfOk result (λ done. (done.status ≤ 5) × (done.status ≢ 2)) }
 {
-    match try_seeds(rt, alloc, start, task, inputs, ends)? {
+    match try_seeds(rt, basis)? {
         Tried::Clean { cut } => {
-            let watches = &inputs.watches;
-            let unstored = unstored_by_seeds(rt, alloc, booted, start, task, inputs, watches)?;
-            let runs = u64::from(task.seeds);
-            Ok(clean_runs(alloc, runs, u64::from(cut), &unstored, said)?)
+            let unstored = unstored_by_seeds(rt, basis, &basis.inputs.watches)?;
+            let runs = u64::from(basis.task.seeds);
+            Ok(clean_runs(basis.alloc, runs, u64::from(cut), &unstored, said)?)
         }
         Tried::Wrong { place, wrong } => {
-            let text = found_text(alloc, booted, task, inputs, ends, place, wrong)?;
-            Ok(wrong_run(alloc, text, said))
+            let text = found_text(basis, place, wrong)?;
+            Ok(wrong_run(basis.alloc, text, said))
         }
     }
 }
 
 // What is printed of the first run that goes wrong.
 fn found_text(
-    alloc: Global,
-    booted: &Booted<Tlb, Console>,
-    task: SearchTask<'_>,
-    inputs: &Inputs,
-    ends: &Machines<'_, Tlb, Console>,
+    basis: &Basis<'_, '_>,
     place: u32,
     wrong: WrongRun,
 ) -> Result<Vec<u8>, AllocError>
-    requires begins { Begins (given_of inputs.now) booted.now ends.now }
-    requires first { IsFirstWrong task (given_of inputs.now) place wrong.run wrong.told }
-    ensures { IfOk result (λ text. IsFound task.entry (given_of inputs.now) text.items) }
+    requires begins { Begins (given_of basis.now.inputs.now) basis.now.booted.now basis.now.ends.now }
+    requires first { IsFirstWrong basis.now.task (given_of basis.now.inputs.now) place wrong.run wrong.told }
+    ensures { IfOk result (λ text. IsFound basis.now.task (given_of basis.now.inputs.now) text.items) }
 {
-    let line = seed_line(alloc, seed_at(task.drive.order, place))?;
-    let is_cut = wrong.run.is_cut;
+    let line = seed_line(basis.alloc, seed_at(basis.task.drive.order, place))?;
+    let (inputs, is_cut) = (basis.inputs, wrong.run.is_cut);
     let printed = print_of(
-        alloc,
-        booted,
-        task,
+        basis.alloc,
+        basis.booted,
+        basis.task,
         inputs,
-        ends,
+        basis.ends,
         is_cut,
         wrong.told,
         wrong.run.events,
     )?;
     let text = found_lines(
-        alloc,
+        basis.alloc,
         inputs.first.conf,
         line,
         printed.verdict,
@@ -261,66 +260,55 @@ fn turns_of(policy: Order) -> u32
 #[tactic(auto, using(crate::proofs::Failing::memory_is_run))]
 fn by_delays<'a, R: Threads + Sync>(
     rt: &R,
-    alloc: Global,
-    booted: &Booted<Tlb, Console>,
-    start: &Start,
-    task: SearchTask<'a>,
-    inputs: &Inputs,
-    ends: &Machines<'_, Tlb, Console>,
+    basis: &Basis<'a, '_>,
     class: DelayClass,
     said: &mut String,
 ) -> Result<Finished, Fault<'a>>
-    requires begins { Begins (given_of inputs.now) booted.now ends.now }
-    requires started { IsStarted (given_of inputs.now) booted.now start.now }
-    requires class { HasClassLimits task.drive.order (Some class) }
-    ensures ok { IfOk result (λ done. Prints task.entry (given_of inputs.now) (Some class) done.text.items (string_bytes said.new) done.status) }
-    ensures fault { IfErr result (IsRunFault (given_of inputs.now)) }
+    requires begins { Begins (given_of basis.now.inputs.now) basis.now.booted.now basis.now.ends.now }
+    requires started { IsStarted (given_of basis.now.inputs.now) basis.now.booted.now basis.now.start.now }
+    requires class { HasClassLimits basis.now.task.drive.order (Some class) }
+    ensures ok { IfOk result (λ done. Prints basis.now.task (given_of basis.now.inputs.now) (Some class) done.text.items (string_bytes said.new) done.status) }
+    ensures fault { IfErr result (IsRunFault (given_of basis.now.inputs.now)) }
     ensures within { IfOk result (λ done. (done.status ≤ 5) × (done.status ≢ 2)) }
 {
-    let turns = turns_of(task.drive.order);
-    match try_lists(rt, alloc, start, task, inputs, ends, turns, class)? {
-        Searched::Clean { runs, cut } => {
-            let watches = &inputs.watches;
-            let unstored = unstored_by_lists(
-                rt, alloc, booted, start, task, inputs, ends, turns, class, watches,
-            )?;
-            Ok(clean_runs(alloc, runs, cut, &unstored, said)?)
+    let turns = turns_of(basis.task.drive.order);
+    let runs = DelayedRuns { basis, turns };
+    match try_lists(rt, &runs, class)? {
+        Searched::Clean { runs: count, cut } => {
+            let unstored = unstored_by_lists(rt, &runs, class, &basis.inputs.watches)?;
+            Ok(clean_runs(basis.alloc, count, cut, &unstored, said)?)
         }
         Searched::Wrong { delays, wrong } => {
-            let text = listed_text(alloc, booted, task, inputs, ends, &delays, wrong)?;
-            Ok(wrong_run(alloc, text, said))
+            let text = listed_text(basis, &delays, wrong)?;
+            Ok(wrong_run(basis.alloc, text, said))
         }
     }
 }
 
 // What is printed of the first list whose run goes wrong.
 fn listed_text(
-    alloc: Global,
-    booted: &Booted<Tlb, Console>,
-    task: SearchTask<'_>,
-    inputs: &Inputs,
-    ends: &Machines<'_, Tlb, Console>,
+    basis: &Basis<'_, '_>,
     delays: &Delays,
     wrong: WrongRun,
 ) -> Result<Vec<u8>, AllocError>
-    requires begins { Begins (given_of inputs.now) booted.now ends.now }
-    requires wrong { IsRunTold wrong.run.is_cut task (given_of inputs.now) wrong.run.events.items (Some wrong.told) }
-    ensures { IfOk result (λ text. IsListed task.entry (given_of inputs.now) (delays_of delays.now) wrong text.items) }
+    requires begins { Begins (given_of basis.now.inputs.now) basis.now.booted.now basis.now.ends.now }
+    requires wrong { IsRunTold wrong.run.is_cut basis.now.task (given_of basis.now.inputs.now) wrong.run.events.items (Some wrong.told) }
+    ensures { IfOk result (λ text. IsListed basis.now.task (given_of basis.now.inputs.now) (delays_of delays.now) wrong text.items) }
 {
-    let line = delays_line(alloc, delays.as_slice())?;
-    let is_cut = wrong.run.is_cut;
+    let line = delays_line(basis.alloc, delays.as_slice())?;
+    let (inputs, is_cut) = (basis.inputs, wrong.run.is_cut);
     let printed = print_of(
-        alloc,
-        booted,
-        task,
+        basis.alloc,
+        basis.booted,
+        basis.task,
         inputs,
-        ends,
+        basis.ends,
         is_cut,
         wrong.told,
         wrong.run.events,
     )?;
     let text = found_lines(
-        alloc,
+        basis.alloc,
         inputs.first.conf,
         line,
         printed.verdict,

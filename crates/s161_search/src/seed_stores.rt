@@ -8,17 +8,15 @@ ghost use Rattle.s161_search.specs.helpers.Begun.{BeginsAt, IsStarted};
 ghost use Rattle.s161_search.specs.helpers.Delayed.{IsNoMemory};
 ghost use Rattle.s161_search.specs.helpers.Inputs.{given_of};
 
-use crate::inputs::Inputs;
+use crate::basis::Basis;
 use crate::orders::run_order;
 use crate::seeds::order_at;
-use crate::start::Start;
 use m161::{Console, Tlb};
 use m161_audit::Watch;
 use m161_jobs::{Tested, Trials, Tried, try_each};
 use m161_judge::{Booted, JudgedRun};
 use m161_stores::{Unstored, stores_to};
 use s161_base::fault::Fault;
-use s161_command::SearchTask;
 use std::alloc::{AllocError, Global};
 use std::thread::Threads;
 
@@ -42,16 +40,12 @@ pub(crate) fn run_stores(
 
 /// Looks for a store to a word in the runs of seeds.
 #[derive(Drop)]
-struct SeedStores<'a, 'b> {
-    alloc: Global,
-    booted: &'b Booted<Tlb, Console>,
-    start: &'b Start,
-    task: SearchTask<'a>,
-    inputs: &'b Inputs,
+struct SeedStores<'a, 'b, 'c> {
+    basis: &'c Basis<'a, 'b>,
     word: u32,
 }
 
-impl<'a, 'b> Trials for SeedStores<'a, 'b> {
+impl<'a, 'b, 'c> Trials for SeedStores<'a, 'b, 'c> {
     ghost use Rattle.std.specs.Prelude.{true, false};
     ghost use Rattle.s161_search.specs.helpers.Delayed.{IsNoMemory};
     ghost use Rattle.s161_search.specs.helpers.Inputs.{given_of};
@@ -63,16 +57,17 @@ impl<'a, 'b> Trials for SeedStores<'a, 'b> {
 
     ghost has = { λ r k. Unit {0} };
 
-    ghost right = { λ r k is_cut. SeedStoresFrom r.booted.now r.start.now r.task (given_of r.inputs.now) r.word k false };
+    ghost right = { λ r k is_cut. SeedStoresFrom r.basis.now.booted.now r.basis.now.start.now r.basis.now.task (given_of r.basis.now.inputs.now) r.word k false };
 
-    ghost wrong = { λ r k found. SeedStoresFrom r.booted.now r.start.now r.task (given_of r.inputs.now) r.word k true };
+    ghost wrong = { λ r k found. SeedStoresFrom r.basis.now.booted.now r.basis.now.start.now r.basis.now.task (given_of r.basis.now.inputs.now) r.word k true };
 
     ghost fails = { λ r. IsNoMemory };
 
     fn judge(&self, place: u32) -> Result<Tested<()>, Fault<'a>> {
-        let order = order_at(self.task.drive.order, place);
-        let run = run_order(self.alloc, self.start, self.task, self.inputs, order)?;
-        if run_stores(self.alloc, self.booted, &run, self.word)? {
+        let basis = self.basis;
+        let order = order_at(basis.task.drive.order, place);
+        let run = run_order(basis.alloc, basis.start, basis.task, basis.inputs, order)?;
+        if run_stores(basis.alloc, basis.booted, &run, self.word)? {
             Ok(Tested::Wrong(()))
         } else {
             Ok(Tested::Right { is_cut: false })
@@ -87,27 +82,17 @@ impl<'a, 'b> Trials for SeedStores<'a, 'b> {
 // Whether no Step of the runs of the seeds stores to a word.
 fn seeds_unstored<'a, R: Threads + Sync>(
     rt: &R,
-    alloc: Global,
-    booted: &Booted<Tlb, Console>,
-    start: &Start,
-    task: SearchTask<'a>,
-    inputs: &Inputs,
+    basis: &Basis<'a, '_>,
     word: u32,
 ) -> Result<bool, Fault<'a>>
-    requires booted { BeginsAt (given_of inputs.now) booted.now }
-    requires started { IsStarted (given_of inputs.now) booted.now start.now }
-    ensures ok { IfOk result (SeedsUnstored task.entry (given_of inputs.now) word) }
+    requires booted { BeginsAt (given_of basis.now.inputs.now) basis.now.booted.now }
+    requires started { IsStarted (given_of basis.now.inputs.now) basis.now.booted.now basis.now.start.now }
+    ensures ok { IfOk result (SeedsUnstored basis.now.task (given_of basis.now.inputs.now) word) }
     ensures fault { IfErr result IsNoMemory }
 {
-    let runs = SeedStores {
-        alloc,
-        booted,
-        start,
-        task,
-        inputs,
-        word,
-    };
-    match try_each(rt, alloc, &runs, task.seeds, task.jobs)? {
+    let task = basis.task;
+    let stores = SeedStores { basis, word };
+    match try_each(rt, basis.alloc, &stores, task.seeds, task.jobs)? {
         Tried::Clean { .. } => Ok(true),
         Tried::Wrong { .. } => Ok(false),
     }
@@ -130,22 +115,18 @@ pub(crate) fn push_unstored(
 // To which words of a watch none stores.
 fn watch_by_seeds<'a, R: Threads + Sync>(
     rt: &R,
-    alloc: Global,
-    booted: &Booted<Tlb, Console>,
-    start: &Start,
-    task: SearchTask<'a>,
-    inputs: &Inputs,
+    basis: &Basis<'a, '_>,
     watch: &Watch,
 ) -> Result<Unstored, Fault<'a>>
-    requires booted { BeginsAt (given_of inputs.now) booted.now }
-    requires started { IsStarted (given_of inputs.now) booted.now start.now }
-    ensures pte { IfOk result (λ unstored. SeedsUnstored task.entry (given_of inputs.now) watch.now.pte unstored.pte) }
-    ensures done { IfOk result (λ unstored. SeedsUnstored task.entry (given_of inputs.now) watch.now.done unstored.done) }
+    requires booted { BeginsAt (given_of basis.now.inputs.now) basis.now.booted.now }
+    requires started { IsStarted (given_of basis.now.inputs.now) basis.now.booted.now basis.now.start.now }
+    ensures pte { IfOk result (λ unstored. SeedsUnstored basis.now.task (given_of basis.now.inputs.now) watch.now.pte unstored.pte) }
+    ensures done { IfOk result (λ unstored. SeedsUnstored basis.now.task (given_of basis.now.inputs.now) watch.now.done unstored.done) }
     ensures fault { IfErr result IsNoMemory }
 {
     Ok(Unstored {
-        pte: seeds_unstored(rt, alloc, booted, start, task, inputs, watch.pte)?,
-        done: seeds_unstored(rt, alloc, booted, start, task, inputs, watch.done)?,
+        pte: seeds_unstored(rt, basis, watch.pte)?,
+        done: seeds_unstored(rt, basis, watch.done)?,
     })
 }
 
@@ -155,22 +136,18 @@ fn watch_by_seeds<'a, R: Threads + Sync>(
 /// Memory was refused.
 pub(crate) fn unstored_by_seeds<'a, R: Threads + Sync>(
     rt: &R,
-    alloc: Global,
-    booted: &Booted<Tlb, Console>,
-    start: &Start,
-    task: SearchTask<'a>,
-    inputs: &Inputs,
+    basis: &Basis<'a, '_>,
     watches: &[Watch],
 ) -> Result<Vec<Unstored>, Fault<'a>>
-    requires booted { BeginsAt (given_of inputs.now) booted.now }
-    requires started { IsStarted (given_of inputs.now) booted.now start.now }
+    requires booted { BeginsAt (given_of basis.now.inputs.now) basis.now.booted.now }
+    requires started { IsStarted (given_of basis.now.inputs.now) basis.now.booted.now basis.now.start.now }
     ensures ok { IfOk result (λ unstored.
-        AreUnstored (SeedsUnstored task.entry (given_of inputs.now)) watches.now unstored.items) }
+        AreUnstored (SeedsUnstored basis.now.task (given_of basis.now.inputs.now)) watches.now unstored.items) }
     ensures fault { IfErr result IsNoMemory }
 {
-    let mut unstored = Vec::new(alloc);
+    let mut unstored = Vec::new(basis.alloc);
     for i in 0..watches.len() {
-        let one = watch_by_seeds(rt, alloc, booted, start, task, inputs, &watches[i])?;
+        let one = watch_by_seeds(rt, basis, &watches[i])?;
         push_unstored(&mut unstored, one)?;
     }
     Ok(unstored)

@@ -8,16 +8,16 @@ ghost use Rattle.s161_search.specs.Seeds.{seed_at, seed_of, with_seed};
 ghost use Rattle.s161_search.specs.helpers.Tried.{IsTried};
 
 use crate::audit::fault_of_audit;
+use crate::basis::Basis;
 use crate::inputs::Inputs;
 use crate::orders::{WrongRun, run_order, tested};
-use crate::start::Start;
 use m161::{Console, Tlb};
 use m161_jobs::{Tested, Trials, Tried, try_each};
 use m161_judge::Booted;
 use m161_order::Order;
-use m161_reach::{Machines, hanging_are_made};
+use m161_reach::hanging_are_made;
 use s161_base::fault::Fault;
-use s161_command::SearchTask;
+use s161_progress::Unit;
 use std::alloc::Global;
 use std::thread::Threads;
 
@@ -79,22 +79,8 @@ pub(crate) fn boot<'a>(alloc: Global, inputs: &Inputs) -> Result<Booted<Tlb, Con
     }
 }
 
-/// Makes the runs of the seeds.
-#[derive(Drop)]
-pub(crate) struct SeedRuns<'a, 'b> {
-    /// Where memory comes from.
-    pub alloc: Global,
-    /// Where they begin.
-    pub start: &'b Start,
-    /// What is searched.
-    pub task: SearchTask<'a>,
-    /// What was read.
-    pub inputs: &'b Inputs,
-    /// What is asked of the states behind a run.
-    pub ends: &'b Machines<'b, Tlb, Console>,
-}
-
-impl<'a, 'b> Trials for SeedRuns<'a, 'b> {
+// The trials of a basis are the runs of its seeds.
+impl<'a, 'b> Trials for Basis<'a, 'b> {
     ghost use Rattle.s161_search.specs.helpers.Delayed.{IsNoMemory, IsSeedRightFrom, IsSeedWrongFrom};
     ghost use Rattle.s161_search.specs.helpers.Inputs.{given_of};
 
@@ -115,7 +101,9 @@ impl<'a, 'b> Trials for SeedRuns<'a, 'b> {
         let run = run_order(self.alloc, self.start, self.task, self.inputs, order)?;
         // So that the proof knows that events which hang were all accepted.
         hanging_are_made();
-        Ok(tested(self.alloc, self.ends, self.task.hung, run)?)
+        let tested = tested(self.alloc, self.ends, self.task.hung, run)?;
+        self.progress.add(1);
+        Ok(tested)
     }
 
     fn refused(&self) -> Fault<'a> {
@@ -129,22 +117,15 @@ impl<'a, 'b> Trials for SeedRuns<'a, 'b> {
 /// A run can't be made.
 pub(crate) fn try_seeds<'a, R: Threads + Sync>(
     rt: &R,
-    alloc: Global,
-    start: &Start,
-    task: SearchTask<'a>,
-    inputs: &Inputs,
-    ends: &Machines<'_, Tlb, Console>,
+    basis: &Basis<'a, '_>,
 ) -> Result<Tried<WrongRun>, Fault<'a>>
-    requires begins { BeginsBehind (given_of inputs.now) start.now ends.now }
-    ensures ok { IfOk result (IsTried task.entry (given_of inputs.now)) }
+    requires begins { BeginsBehind (given_of basis.now.inputs.now) basis.now.start.now basis.now.ends.now }
+    ensures ok { IfOk result (IsTried basis.now.task (given_of basis.now.inputs.now)) }
     ensures fault { IfErr result IsNoMemory }
 {
-    let runs = SeedRuns {
-        alloc,
-        start,
-        task,
-        inputs,
-        ends,
-    };
-    try_each(rt, alloc, &runs, task.seeds, task.jobs)
+    let task = basis.task;
+    basis
+        .progress
+        .begin(Unit::Runs, Some(u64::from(task.seeds)));
+    try_each(rt, basis.alloc, basis, task.seeds, task.jobs)
 }

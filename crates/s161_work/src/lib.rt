@@ -6,6 +6,7 @@ mod going;
 mod printing;
 pub mod prompt;
 mod refusing;
+pub mod waiting;
 pub mod work;
 
 pub use s161_base::{fault, files};

@@ -27,6 +27,7 @@ use s161_base::streams::send;
 use s161_command::{
     AssemblyTask, DrivenTask, ListingTask, RunTask, ScheduleTask, Shown, Task, ThreadsTask,
 };
+use s161_progress::Progress;
 use s161_run::demo::demo;
 use s161_run::driven::run_driven;
 use s161_run::replay::replay;
@@ -55,6 +56,7 @@ pub(crate) fn print_task<'a, R: Threads + Wait + Sync, F: FileSource, I: Read, O
     input: &mut I,
     output: &mut O,
     errors: &mut E,
+    progress: &Progress,
 ) -> Result<u8, Fault<'a>>
     requires limits { HasLimits task }
     requires text { going_of task ≡ None }
@@ -75,7 +77,7 @@ pub(crate) fn print_task<'a, R: Threads + Wait + Sync, F: FileSource, I: Read, O
     ensures within { IfOk result (λ status. (status ≤ 6) × (status ≢ 2)) }
 {
     let mut said = String::new(alloc);
-    let finished = finish(rt, alloc, task, never, files, input, &mut said)?;
+    let finished = finish(rt, alloc, task, never, files, input, progress, &mut said)?;
     send(output, &finished.text)?;
     tell(errors, said.as_str())?;
     Ok(finished.status)
@@ -101,6 +103,7 @@ fn finish<'a, R: Threads + Wait + Sync, F: FileSource, I: Read>(
     never: &[&'a str],
     files: &mut F,
     input: &mut I,
+    progress: &Progress,
     said: &mut String,
 ) -> Result<Finished, Fault<'a>>
     requires limits { HasLimits task }
@@ -124,10 +127,10 @@ fn finish<'a, R: Threads + Wait + Sync, F: FileSource, I: Read>(
         Task::RunDriven(task) => finish_driven(alloc, files, task, said),
         Task::Schedule(task) => finish_schedule(alloc, files, task),
         Task::Console(_) | Task::Trace(_) | Task::Debug(_) | Task::Gdb(_) => unreachable!(),
-        Task::Search(task) => search(rt, alloc, files, task, never, said),
-        Task::Explore(task) => explore(alloc, files, task, never, said),
-        Task::Replay(task) => replay(alloc, files, task),
-        Task::Audit(task) => audit(alloc, files, input, task, said),
+        Task::Search(task) => search(rt, alloc, files, task, never, progress, said),
+        Task::Explore(task) => explore(alloc, files, task, never, progress, said),
+        Task::Replay(task) => replay(alloc, files, task, progress),
+        Task::Audit(task) => audit(alloc, files, input, task, progress, said),
         Task::Assemble(task) => finish_assembly(alloc, input, task),
         Task::Disassemble(task) => finish_listing(alloc, files, task),
     }

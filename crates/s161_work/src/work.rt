@@ -13,14 +13,15 @@ use s161_base::fault::Fault;
 use s161_base::files::FileSource;
 use s161_base::report::report;
 use s161_command::{Task, never_words, parse};
+use s161_progress::Progress;
 use std::alloc::Global;
 use std::convert::AsStr;
 use std::io::{Read, Write};
 use std::sync::Wait;
 use std::thread::Threads;
 
-/// The whole program: does the work of a command line, or reports the fault of reading its words.
-/// Returns the exit status.
+/// The whole program: does the work of a command line, or reports the fault of reading its words, and
+/// counts how far long work is. Returns the exit status.
 pub fn start<A, F, I, O, E>(
     rt: &A,
     words: Result<Vec<String>, Fault<'static>>,
@@ -28,6 +29,7 @@ pub fn start<A, F, I, O, E>(
     input: &mut I,
     output: &mut O,
     errors: &mut E,
+    progress: &Progress,
 ) -> u8
 where
     A: AllocGlobal + Threads + Wait + Sync,
@@ -55,7 +57,15 @@ where
     ensures within { result ≤ 6 }
 {
     match words {
-        Ok(words) => work(rt, words.as_slice(), files, input, output, errors),
+        Ok(words) => follow(
+            rt,
+            words.as_slice(),
+            files,
+            input,
+            output,
+            errors,
+            progress,
+        ),
         Err(unread) => report(unread, errors),
     }
 }
@@ -96,6 +106,40 @@ where
         (standard (I.remaining input.new) (O.contents output.new) (E.contents errors.new)) }
     ensures within { result ≤ 6 }
 {
+    follow(rt, words, files, input, output, errors, &Progress::new())
+}
+
+// The same, and counts how far long work is.
+fn follow<A, S, F, I, O, E>(
+    rt: &A,
+    words: &[S],
+    files: &mut F,
+    input: &mut I,
+    output: &mut O,
+    errors: &mut E,
+    progress: &Progress,
+) -> u8
+where
+    A: AllocGlobal + Threads + Wait + Sync,
+    S: AsStr,
+    F: FileSource,
+    I: Read,
+    O: Write,
+    E: Write,
+    ensures rejected { result ≡ 2 → Rejects (map S.text words.now)
+        (file_use (F.known files.old) (F.asked files.old) (F.asked files.new))
+        (standard (I.remaining input.old) (O.contents output.old) (E.contents errors.old))
+        (standard (I.remaining input.new) (O.contents output.new) (E.contents errors.new)) }
+    ensures finished { IsDone result → Follows (map S.text words.now)
+        (file_use (F.known files.old) (F.asked files.old) (F.asked files.new))
+        (standard (I.remaining input.old) (O.contents output.old) (E.contents errors.old))
+        (standard (I.remaining input.new) (O.contents output.new) (E.contents errors.new)) result }
+    ensures failed { result ≡ 1 → EndsBadly (map S.text words.now)
+        (file_use (F.known files.old) (F.asked files.old) (F.asked files.new))
+        (standard (I.remaining input.old) (O.contents output.old) (E.contents errors.old))
+        (standard (I.remaining input.new) (O.contents output.new) (E.contents errors.new)) }
+    ensures within { result ≤ 6 }
+{
     let alloc = rt.alloc();
     let task = match parse(alloc, words) {
         Ok(task) => task,
@@ -105,7 +149,9 @@ where
         Ok(never) => never,
         Err(_) => return report(Fault::Memory, errors),
     };
-    match do_task(rt, alloc, task, &never, files, input, output, errors) {
+    match do_task(
+        rt, alloc, task, &never, files, input, output, errors, progress,
+    ) {
         Ok(status) => status,
         Err(fault) => report(fault, errors),
     }
@@ -121,6 +167,7 @@ fn do_task<'a, R: Threads + Wait + Sync, F: FileSource, I: Read, O: Write, E: Wr
     input: &mut I,
     output: &mut O,
     errors: &mut E,
+    progress: &Progress,
 ) -> Result<u8, Fault<'a>>
     requires { HasLimits task }
     ensures finished { IfOk result (Finishes (map (λ word. word.now) never.now) task.entry (F.known files.old)
@@ -149,6 +196,8 @@ fn do_task<'a, R: Threads + Wait + Sync, F: FileSource, I: Read, O: Write, E: Wr
         | Task::Replay(_)
         | Task::Audit(_)
         | Task::Assemble(_)
-        | Task::Disassemble(_) => print_task(rt, alloc, task, never, files, input, output, errors),
+        | Task::Disassemble(_) => print_task(
+            rt, alloc, task, never, files, input, output, errors, progress,
+        ),
     }
 }

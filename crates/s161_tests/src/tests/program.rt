@@ -5,6 +5,7 @@ use super::streams::{FREE, Left, Memory, NoFiles, all};
 use m161_elf::LoadError;
 use m161_machine::BootError;
 use s161_base::fault::{Fault, Unread};
+use s161_progress::Progress;
 use s161_work::work::{start, work};
 use std::process::Abort;
 use std::sync::Wait;
@@ -196,6 +197,7 @@ fn start_on(
         &mut input,
         &mut output,
         &mut errors,
+        &Progress::new(),
     );
     (
         status,

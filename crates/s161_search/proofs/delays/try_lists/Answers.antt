@@ -5,5 +5,5 @@ use Rattle.s161_search.proofs.delays.try_lists.Goals as goal
 
 pub returns-clause-ok : goal.returns-clause-ok
 returns-clause-ok g c =
-    searched_by c.args.task (given_of c.args.inputs.now) c.args.turns c.args.start.now c.args.ends.now (class_of c.args.class) c.search_lists.result c.requires.begins
+    searched_by c.args.runs.now.basis.now.task (given_of c.args.runs.now.basis.now.inputs.now) c.args.runs.now.turns c.args.runs.now.basis.now.start.now c.args.runs.now.basis.now.ends.now (class_of c.args.class) c.search_lists.result c.requires.begins
     c.search_lists.ensures.ok

@@ -8,22 +8,22 @@ use Rattle.s161_search.proofs.list_stores.lists_unstored.Goals as goal
 
 pub returns-in-Clean-clause-ok : goal.returns-in-Clean-clause-ok
 returns-in-Clean-clause-ok g c =
-    let given = given_of c.args.inputs.now in
-    let s = c.args.booted.now in
-    let start = c.args.start.now in
+    let given = given_of c.args.runs.now.basis.now.inputs.now in
+    let s = c.args.runs.now.basis.now.booted.now in
+    let start = c.args.runs.now.basis.now.start.now in
     let class = class_of c.args.class in
-    let right : List ℕ → Bool → Type 0 = λ numbers is_cut. ListStoresFrom s start c.args.task given c.args.turns c.args.word numbers false in
-    let wrong : List ℕ → Unit {0} → Type 0 = λ numbers found. ListStoresFrom s start c.args.task given c.args.turns c.args.word numbers true in
-    no_list_stores s start c.args.task given c.args.turns c.args.word class c.in-Clean.runs c.in-Clean.cut c.requires.booted c.requires.started
-    (subst (Finds class (offered_by c.args.task given c.args.turns start.core.value.state) right wrong) c.in-Clean.is c.in_ok-search_lists.ensures.ok)
+    let right : List ℕ → Bool → Type 0 = λ numbers is_cut. ListStoresFrom s start c.args.runs.now.basis.now.task given c.args.runs.now.turns c.args.word numbers false in
+    let wrong : List ℕ → Unit {0} → Type 0 = λ numbers found. ListStoresFrom s start c.args.runs.now.basis.now.task given c.args.runs.now.turns c.args.word numbers true in
+    no_list_stores s start c.args.runs.now.basis.now.task given c.args.runs.now.turns c.args.word class c.in-Clean.runs c.in-Clean.cut c.requires.booted c.requires.started
+    (subst (Finds class (offered_by c.args.runs.now.basis.now.task given c.args.runs.now.turns start.core.value.state) right wrong) c.in-Clean.is c.in_ok-search_lists.ensures.ok)
 
 pub returns-in-Wrong-clause-ok : goal.returns-in-Wrong-clause-ok
 returns-in-Wrong-clause-ok g c =
-    let given = given_of c.args.inputs.now in
-    let s = c.args.booted.now in
-    let start = c.args.start.now in
+    let given = given_of c.args.runs.now.basis.now.inputs.now in
+    let s = c.args.runs.now.basis.now.booted.now in
+    let start = c.args.runs.now.basis.now.start.now in
     let class = class_of c.args.class in
-    let right : List ℕ → Bool → Type 0 = λ numbers is_cut. ListStoresFrom s start c.args.task given c.args.turns c.args.word numbers false in
-    let wrong : List ℕ → Unit {0} → Type 0 = λ numbers found. ListStoresFrom s start c.args.task given c.args.turns c.args.word numbers true in
-    some_list_stores s start c.args.task given c.args.turns c.args.word class c.in-Wrong.delays c.in-Wrong.wrong c.requires.booted c.requires.started
-    (subst (Finds class (offered_by c.args.task given c.args.turns start.core.value.state) right wrong) c.in-Wrong.is c.in_ok-search_lists.ensures.ok)
+    let right : List ℕ → Bool → Type 0 = λ numbers is_cut. ListStoresFrom s start c.args.runs.now.basis.now.task given c.args.runs.now.turns c.args.word numbers false in
+    let wrong : List ℕ → Unit {0} → Type 0 = λ numbers found. ListStoresFrom s start c.args.runs.now.basis.now.task given c.args.runs.now.turns c.args.word numbers true in
+    some_list_stores s start c.args.runs.now.basis.now.task given c.args.runs.now.turns c.args.word class c.in-Wrong.delays c.in-Wrong.wrong c.requires.booted c.requires.started
+    (subst (Finds class (offered_by c.args.runs.now.basis.now.task given c.args.runs.now.turns start.core.value.state) right wrong) c.in-Wrong.is c.in_ok-search_lists.ensures.ok)

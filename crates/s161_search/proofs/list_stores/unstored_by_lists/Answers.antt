@@ -11,7 +11,7 @@ use Rattle.s161_search.proofs.list_stores.unstored_by_lists.Goals as goal
 
 pub loop-i-preserved : goal.loop-i-preserved
 loop-i-preserved g c =
-    let IsSo : ℕ → Bool → Type 0 = ListsUnstored c.args.task (given_of c.args.inputs.now) c.args.turns (class_of c.args.class) in
+    let IsSo : ℕ → Bool → Type 0 = ListsUnstored c.args.runs.now.basis.now.task (given_of c.args.runs.now.basis.now.inputs.now) c.args.runs.now.turns (class_of c.args.class) in
     let ws = c.args.watches.now in
     let us = c.loop-i.unstored.items in
     let u = c.in_ok-one.one in

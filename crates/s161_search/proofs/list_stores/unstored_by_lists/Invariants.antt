@@ -7,4 +7,4 @@ use Rattle.s161_search.proofs.list_stores.unstored_by_lists.Given as goal
 
 -- the watches so far
 abbrev pub invariant-loop-i : goal.invariant-loop-i
-invariant-loop-i g l = AreUnstored (ListsUnstored l.task (given_of l.inputs) l.turns (class_of l.class)) (take l.i l.watches) l.unstored.items
+invariant-loop-i g l = AreUnstored (ListsUnstored l.runs.basis.now.task (given_of l.runs.basis.now.inputs.now) l.runs.turns (class_of l.class)) (take l.i l.watches) l.unstored.items

@@ -9,13 +9,13 @@ use Rattle.s161_search.proofs.search.by_delays.Goals as goal
 
 pub returns-in_ok-text-in-Wrong-clause-ok : goal.returns-in_ok-text-in-Wrong-clause-ok
 returns-in_ok-text-in-Wrong-clause-ok g c =
-    let task = c.args.task in
-    let given = given_of c.args.inputs.now in
+    let task = c.args.basis.now.task in
+    let given = given_of c.args.basis.now.inputs.now in
     let class = class_of c.args.class in
     let turns = turns_are task.drive.order c.args.class c.requires.class in
     let steps = c.turns_of-turns.ensures turns.0 turns.1 in
     let first : IsFirstBy task given c.turns_of-turns.result class (delays_of c.in-Wrong.delays) c.in-Wrong.wrong.run c.in-Wrong.wrong.told =
-    subst (IsSearchedBy task given c.turns_of-turns.result class) c.in-Wrong.is c.in_ok-runs.ensures.ok in (
+    subst (IsSearchedBy task given c.turns_of-turns.result class) c.in-Wrong.is c.in_ok-try_lists.ensures.ok in (
       turns.0,
       turns.1,
       inr (

@@ -20,8 +20,8 @@ returns c =
       same_kind = made.same_kind;
       text_is =
           ap (λ v. v.items) c.into_bytes.ensures.value
-          ∙ c.in_ok-text.ensures (seed_text (seed_at c.args.task.drive.order c.args.place))
+          ∙ c.in_ok-text.ensures (seed_text (seed_at c.args.basis.now.task.drive.order c.args.place))
           (c.in_ok-line.ensures ∙ ap (λ n. with_line_end (seed_text n)) c.seed_at.ensures)
-          ∙ ap (λ v. found_text c.args.inputs.now.first.conf (seed_text (seed_at c.args.task.drive.order c.args.place)) v c.deref.result.now) made.verdict_is
-          ∙ ap (λ es. found_text c.args.inputs.now.first.conf (seed_text (seed_at c.args.task.drive.order c.args.place)) made.final.verdict es) c.deref.ensures.value;
+          ∙ ap (λ v. found_text c.args.basis.now.inputs.now.first.conf (seed_text (seed_at c.args.basis.now.task.drive.order c.args.place)) v c.deref.result.now) made.verdict_is
+          ∙ ap (λ es. found_text c.args.basis.now.inputs.now.first.conf (seed_text (seed_at c.args.basis.now.task.drive.order c.args.place)) made.final.verdict es) c.deref.ensures.value;
     }

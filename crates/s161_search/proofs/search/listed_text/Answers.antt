@@ -18,6 +18,6 @@ returns c =
       text_is =
           ap (λ v. v.items) c.into_bytes.ensures.value
           ∙ c.in_ok-text.ensures (delays_text numbers) (c.in_ok-line.ensures ∙ ap (λ ns. with_line_end (delays_text ns)) c.as_slice.ensures.numbers)
-          ∙ ap (λ v. found_text c.args.inputs.now.first.conf (delays_text numbers) v c.deref.result.now) made.verdict_is
-          ∙ ap (λ es. found_text c.args.inputs.now.first.conf (delays_text numbers) made.final.verdict es) c.deref.ensures.value;
+          ∙ ap (λ v. found_text c.args.basis.now.inputs.now.first.conf (delays_text numbers) v c.deref.result.now) made.verdict_is
+          ∙ ap (λ es. found_text c.args.basis.now.inputs.now.first.conf (delays_text numbers) made.final.verdict es) c.deref.ensures.value;
     }

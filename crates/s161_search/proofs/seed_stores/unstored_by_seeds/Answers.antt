@@ -10,7 +10,7 @@ use Rattle.s161_search.proofs.seed_stores.unstored_by_seeds.Goals as goal
 
 pub loop-i-preserved : goal.loop-i-preserved
 loop-i-preserved g c =
-    let IsSo : ℕ → Bool → Type 0 = SeedsUnstored c.args.task (given_of c.args.inputs.now) in
+    let IsSo : ℕ → Bool → Type 0 = SeedsUnstored c.args.basis.now.task (given_of c.args.basis.now.inputs.now) in
     let ws = c.args.watches.now in
     let us = c.loop-i.unstored.items in
     let u = c.in_ok-one.one in

@@ -6,4 +6,4 @@ use Rattle.s161_search.proofs.seed_stores.unstored_by_seeds.Given as goal
 
 -- the watches so far
 abbrev pub invariant-loop-i : goal.invariant-loop-i
-invariant-loop-i g l = AreUnstored (SeedsUnstored l.task (given_of l.inputs)) (take l.i l.watches) l.unstored.items
+invariant-loop-i g l = AreUnstored (SeedsUnstored l.basis.task (given_of l.basis.inputs.now)) (take l.i l.watches) l.unstored.items

@@ -14,12 +14,12 @@ use Rattle.s161_search.proofs.delays.DelayedRunsRuns.offers.Goals as goal
 
 pub returns-clause-ok : goal.returns-clause-ok
 returns-clause-ok c =
-    let task = c.args.self.now.task in
-    let keys = (given_of c.args.self.now.inputs.now).keys in
+    let task = c.args.self.now.basis.now.task in
+    let keys = (given_of c.args.self.now.basis.now.inputs.now).keys in
     let rules = rules_of task.drive keys in
-    let s = c.args.self.now.start.now.core.value.state in
+    let s = c.args.self.now.basis.now.start.now.core.value.state in
     let turns = c.args.self.now.turns in
-    let n = most_of task (given_of c.args.self.now.inputs.now) in
+    let n = most_of task (given_of c.args.self.now.basis.now.inputs.now) in
     let policy = c.in_ok-policy.ensures.ok in
     let state = c.in_ok-core.ensures.state ∙ ap (λ (k : CoreValue). k.state) c.deref.ensures in
     c.in_ok-offers.ensures

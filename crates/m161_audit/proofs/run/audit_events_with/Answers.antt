@@ -1,6 +1,6 @@
 use Rattle.m161_machine.specs.History.{boot_fault}
 use Rattle.m161_audit.proofs.Begun.{audits}
-use Rattle.m161_audit.proofs.run.audit_events.Goals as goal
+use Rattle.m161_audit.proofs.run.audit_events_with.Goals as goal
 
 pub returns : goal.returns
 returns g c =

@@ -4,7 +4,7 @@ use Rattle.m161_machine.specs.History.{boot_fault}
 use Rattle.m161_steplog.specs.declared.verdict.Comparison.TheVariants as verdicts
 use Rattle.m161_steplog.specs.Verdict.{IsVerdict}
 use Rattle.m161_steplog.proofs.Verdicts.{repeated, differs, judged, no_memory}
-use Rattle.m161_steplog.proofs.verdict.verify.Goals as goal
+use Rattle.m161_steplog.proofs.verdict.verify_with.Goals as goal
 
 pub returns-in_err-repeats : goal.returns-in_err-repeats
 returns-in_err-repeats g c =

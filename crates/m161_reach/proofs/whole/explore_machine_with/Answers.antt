@@ -1,7 +1,7 @@
 use Rattle.std.proofs.Common.{arith}
 use Rattle.m161_reach.specs.Reach.{question_of}
 use Rattle.m161_reach.proofs.Knowing.{ended, less_left, news_below, nothing_learnt, still_learnt}
-use Rattle.m161_reach.proofs.whole.explore_machine.Goals as goal
+use Rattle.m161_reach.proofs.whole.explore_machine_with.Goals as goal
 
 pub loop-unknown-smaller : goal.loop-unknown-smaller
 loop-unknown-smaller g c =

@@ -1,7 +1,7 @@
 use Rattle.std.proofs.Common.{◌≡◌, ℕ, ◌++◌, List, ap, arith, ◌∙◌}
 use Rattle.m161_explore.proofs.Judging.{begins_before, found_path, open_path}
 use Rattle.m161_explore.proofs.Laws.{Laws}
-use Rattle.m161_explore.proofs.whole.explore.Goals as goal
+use Rattle.m161_explore.proofs.whole.explore_with.Goals as goal
 
 pub search-requires-clause-before : goal.search-requires-clause-before
 search-requires-clause-before g c =

@@ -1,6 +1,6 @@
 use Rattle.m161_reach.specs.Reach.{IsLearnt, question_of}
 use Rattle.m161_reach.proofs.Knowing.{left}
-use Rattle.m161_reach.proofs.whole.explore_machine.Given as goal
+use Rattle.m161_reach.proofs.whole.explore_machine_with.Given as goal
 
 -- what is known is read
 abbrev pub invariant-loop-unknown : goal.invariant-loop-unknown

@@ -2,7 +2,7 @@ use Rattle.std.proofs.Common.{subst}
 use Rattle.s161_search.specs.helpers.Delayed.{IsRunFrom}
 use Rattle.s161_search.specs.helpers.Inputs.{given_of}
 use Rattle.s161_search.proofs.Judging.{seed_judged}
-use Rattle.s161_search.proofs.seeds.SeedRunsTrials.judge.Goals as goal
+use Rattle.s161_search.proofs.seeds.BasisTrials.judge.Goals as goal
 
 pub returns-clause-ok : goal.returns-clause-ok
 returns-clause-ok c =
