@@ -1,7 +1,7 @@
 //! Showing how far work is.
 
 ghost use Rattle.std.specs.Prelude.{◌≡◌, IfOk, string_bytes};
-ghost use Rattle.s161_progress.specs.Amounts.{shown_text};
+ghost use Rattle.s161_progress.specs.helpers.Shown.{shown_text};
 
 use crate::amount::Amount;
 use crate::counter::Progress;
