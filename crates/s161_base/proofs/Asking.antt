@@ -2,9 +2,10 @@ use Rattle.std.proofs.Common.{◌≡◌, ◌⊎◌, ◌∙◌, ℕ, List, [], �
 use Rattle.std.specs.Prelude.{IfErr, IfSome, bytes_eq, codes, option_map}
 use Rattle.std.specs.Result.{IsErrAnd}
 use Rattle.m161_machine.specs.declared.conf.BootError.{BootError}
+use Rattle.m161_machine.specs.declared.conf.Conf.{Conf as MachineConf}
 use Rattle.s161_base.proofs.Failing.{schedule_failed}
 use Rattle.s161_base.specs.Asked.{Asks, AsksFor, AsksUntil, EndsAt, EndsBy, IsBeforeInput, file_of, image_files, is_memory}
-use Rattle.s161_base.specs.Faults.{fault_of_boot}
+use Rattle.s161_base.specs.Faults.{fault_of_boot, IsBootFault}
 use Rattle.s161_base.specs.Reading.{IsFileUnread, IsInputUnread, IsOfBytes}
 use Rattle.s161_base.specs.Samples.{IsFileName}
 use Rattle.s161_base.specs.Texts.{IsScheduleFault}
@@ -130,10 +131,13 @@ pub memory_is_none : (fault : Fault) → fault ≡ Memory → IsNoFile fault
 memory_is_none fault is = subst IsNoFile (sym is) tt
 
 -- a boot's fault
-pub boot_is_none : (e : BootError) → IsNoFile (fault_of_boot e)
-boot_is_none BootError.BadConf = tt
-boot_is_none (BootError.Load x) = tt
-boot_is_none BootError.NoMemory = tt
+pub boot_error_is_none : (file : List ℕ) (ram : ℕ) (e : BootError) → IsNoFile (fault_of_boot file ram e)
+boot_error_is_none file ram BootError.BadConf = tt
+boot_error_is_none file ram (BootError.Load x) = tt
+boot_error_is_none file ram BootError.NoMemory = tt
+
+pub boot_is_none : (file : List ℕ) (conf : MachineConf) (fault : Fault) → IsBootFault file conf fault → IsNoFile fault
+boot_is_none file conf fault h = none_by (IsBootFault file conf) (λ name why bad. bad) fault h
 
 -- that of standard input
 pub input_is_none : (known : Option (List ℕ)) (fault : Fault) → IsInputUnread known fault ⊎ (fault ≡ Memory) → IsNoFile fault

@@ -12,18 +12,22 @@ use Rattle.m161_cause.specs.declared.cause.Cause.TheVariants as cause
 use Rattle.m161_elf.specs.LoadError.{name_of_fault, number_of_fault}
 use Rattle.m161_elf.specs.declared.image.LoadError.{LoadError}
 use Rattle.m161_elf.specs.declared.image.LoadError.TheVariants as load
-use Rattle.m161_text.specs.Parts.{◌␣◌, hex_digit, hex_text}
+use Rattle.m161_segments.specs.declared.outside.OutsideRam.{OutsideRam}
+use Rattle.m161_text.specs.Parts.{◌␣◌, hex_digit, hex_text, word_text}
 use Rattle.m161_text.proofs.Hex.{hex_digit_above}
 use Rattle.m161_machine.specs.declared.event.Refusal.{Refusal}
 use Rattle.m161_machine.specs.declared.event.Refusal.TheVariants as refusals
 use Rattle.m161_machine.specs.Refusal.{name_of_refusal, number_of_refusal}
 use Rattle.s161_base.specs.declared.fault.Fault.{Fault}
 use Rattle.s161_base.specs.declared.fault.Fault.TheVariants.{After, Conf, File, Image, Input, Log, LogImage, LogMachine, Memory, Never, Output, Schedule, Source, Threads, Touches, Watch, Watches, Word}
+use Rattle.s161_base.specs.declared.fault.Unloaded.{Unloaded}
+use Rattle.s161_base.specs.declared.fault.Unloaded.TheVariants as unloaded
 use Rattle.s161_base.specs.declared.fault.Unread.{Unread}
 use Rattle.s161_base.specs.declared.fault.Unread.TheVariants.{Failed, NotUtf8, TooLong}
 use Rattle.s161_base.specs.Excerpts.{characters_of}
-use Rattle.s161_base.specs.Explained.{explanation_of, of_cause, of_file, of_image, of_input, of_source}
-use Rattle.s161_base.specs.FaultLines.{detail_of, fault_head, is_marked, is_plain, quoted, shown_byte, shown_name, source_text, IsPlain}
+use Rattle.s161_base.specs.Explained.{explanation_of, of_cause, of_file, of_image, of_input, of_source, of_unloaded}
+use Rattle.s161_base.specs.FaultLines.{detail_of, fault_head, is_marked, is_plain, quoted, segment_text, shown_byte, shown_name, source_text, IsPlain}
+use Rattle.s161_base.specs.Faults.{error_of}
 
 -- The lines of faults have no byte that ends a line, and one opening bracket at most.
 
@@ -148,7 +152,8 @@ head (After k r) =
     (spaced (decimal k) (decimal (number_of_refusal r) ␣ name_of_refusal r) (number k)
     (spaced (decimal (number_of_refusal r)) (name_of_refusal r) (number (number_of_refusal r)) (refusal r)))
 head Conf = refl
-head (Image e) =
+head (Image why) =
+    let e = error_of why in
     spaced (codes "s161: image") (decimal (number_of_fault e) ␣ name_of_fault e) refl
     (spaced (decimal (number_of_fault e)) (name_of_fault e) (number (number_of_fault e)) (image e))
 head (Source e) = spaced (codes "s161: source") (source_text e.error) refl (source e.error)
@@ -179,6 +184,10 @@ image_why load.SegmentOutsideRam = refl
 image_why load.FileLargerThanMemory = refl
 image_why load.BadEntry = refl
 image_why load.NoMemory = refl
+
+unloaded_why : (why : Unloaded) → IsPlain (of_unloaded why)
+unloaded_why (unloaded.Load e) = image_why e
+unloaded_why (unloaded.Segment s) = refl
 
 source_why : (k : ErrorKind) → IsPlain (of_source k)
 source_why asm.BadToken = refl
@@ -213,7 +222,7 @@ why (Never word) = refl
 why (Touches word) = refl
 why (After k r) = refl
 why Conf = refl
-why (Image e) = image_why e
+why (Image reason) = unloaded_why reason
 why (Source e) = source_why e.error.kind
 why (Threads c) = threads_why c
 why Memory = tt
@@ -227,6 +236,21 @@ quoted_plain (c ∷ cs) =
     let shown = shown_name (encode_utf8_all (c ∷ cs)) in
     front (codes ": \"") (shown ++ codes "\"") refl (front shown (codes "\"") (name (encode_utf8_all (c ∷ cs))) refl)
 
+segment_plain : (s : OutsideRam) → IsPlain (segment_text s)
+segment_plain s =
+    let last = codes "bytes in kseg0 or kseg1" in
+    let ram = decimal s.ram ␣ last in
+    let behind = codes "on, not all in RAM of" ␣ ram in
+    let memory = word_text s.address ␣ behind in
+    let from = codes "bytes from" ␣ memory in
+    let size = decimal s.size ␣ from in
+    front (decimal s.header) (codes "," ␣ size) (number s.header)
+    (spaced (codes ",") size refl
+    (spaced (decimal s.size) from (number s.size)
+    (spaced (codes "bytes from") memory refl
+    (spaced (word_text s.address) behind (hex 8 s.address)
+    (spaced (codes "on, not all in RAM of") ram refl (spaced (decimal s.ram) last (number s.ram) refl))))))
+
 pub detail : (fault : Fault) → IsPlain (detail_of fault)
 detail (File file reason) = refl
 detail (Schedule n) = refl
@@ -239,7 +263,8 @@ detail (Never word) = refl
 detail (Touches word) = refl
 detail (After k r) = refl
 detail Conf = refl
-detail (Image e) = refl
+detail (Image (unloaded.Load e)) = refl
+detail (Image (unloaded.Segment s)) = segment_plain s
 detail (Source e) = quoted_plain (characters_of e.word)
 detail (Threads c) = refl
 detail Memory = refl

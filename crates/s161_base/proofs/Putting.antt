@@ -1,4 +1,4 @@
-use Rattle.std.proofs.Common.{◌≡◌, ◌∙◌, refl, sym, ap, subst, ℕ, zero, suc, ◌+◌, ◌-◌, ◌<◌, ◌≤◌, Bool, true, false, nat_le, List, [], ◌∷◌, ◌++◌, length, get_or, take, drop, Option, Result, Ok, Err, IfErr, OnOk, append_assoc, length-drop, take-append-drop, arith}
+use Rattle.std.proofs.Common.{◌≡◌, ◌∙◌, refl, sym, ap, subst, ℕ, zero, suc, ◌+◌, ◌-◌, ◌/◌, ◌%◌, ◌<◌, ◌≤◌, Bool, true, false, nat_le, List, [], ◌∷◌, ◌++◌, length, get_or, take, drop, Option, Result, Ok, Err, IfErr, OnOk, append_assoc, length-drop, take-append-drop, arith}
 use Rattle.std.proofs.lemmas.List.{take-append-le, take_all}
 use Rattle.std.proofs.Math.Seq.{take-append_seam, take-length}
 use Rattle.std.proofs.lemmas.List.Concat.{flat_map-append}
@@ -6,6 +6,7 @@ use Rattle.std.proofs.lemmas.Bool.{leb-true, leb-false}
 use Rattle.std.proofs.KnownBytes.{Appends-trans}
 use Rattle.std.specs.Io.KnownBytes.{Appends}
 use Rattle.std.specs.Result.{IsErrAnd}
+use Rattle.m161_text.specs.Parts.{hex_digit, hex_text}
 use Rattle.s161_base.specs.declared.fault.Fault.{Fault}
 use Rattle.s161_base.specs.declared.fault.Fault.TheVariants.{Output}
 use Rattle.s161_base.specs.FaultLines.{shown_byte, shown_name}
@@ -125,3 +126,8 @@ module _ (a b c : Option (List ℕ)) (name done rest : List ℕ) (first : Append
         ap (λ xs. (done ++ front) ++ shown_name xs) left ∙ append_assoc done front (shown_name (drop n rest))
             ∙ ap (λ xs. done ++ xs) (shown_parts n rest) ∙ is,
       )
+
+-- the digits of a number, the last one behind the others
+pub hex_last : (k n : ℕ) → 0 < k → hex_text (k - 1) (n / 16) ++ hex_digit (n % 16) ∷ [] ≡ hex_text k n
+hex_last zero n some = absurd (omega arith)
+hex_last (suc k) n some = let less : suc k - 1 ≡ k = omega arith in ap (λ j. hex_text j (n / 16) ++ hex_digit (n % 16) ∷ []) less

@@ -1,5 +1,5 @@
-use Rattle.std.proofs.Common.{Bor, ◌≡◌, ◌∙◌, ℕ, zero, suc, ◌+◌, ◌-◌, ◌<◌, ◌≤◌, Bool, true, false, not, ◌&&◌, ◌==◌, List, [], ◌∷◌, ◌++◌, length, get_or, take, drop, set, encode_utf8, inl, inr, refl, sym, ap, append_assoc, append-nil, arith}
-use Rattle.std.specs.Prelude.{encode_utf8_all, option_map, slice_get, unwrap_or, Option, None, Some, codes}
+use Rattle.std.proofs.Common.{Bor, ◌≡◌, ◌∙◌, ℕ, suc, ◌+◌, ◌-◌, ◌<◌, ◌≤◌, Bool, true, false, not, ◌&&◌, ◌==◌, List, [], ◌∷◌, ◌++◌, length, get_or, take, drop, set, encode_utf8, inl, inr, refl, sym, ap, append_assoc, append-nil, arith}
+use Rattle.std.specs.Prelude.{encode_utf8_all, option_map, slice_get, unwrap_or, Option, Some, codes}
 use Rattle.std.specs.List.{list_all}
 use Rattle.std.proofs.lemmas.Bool.{cases_lt, ne_eqb}
 use Rattle.std.proofs.lemmas.Bool.Decides.{nat_tests}

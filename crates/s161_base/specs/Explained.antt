@@ -7,11 +7,13 @@ use Rattle.m161_elf.specs.declared.image.LoadError.{LoadError}
 use Rattle.m161_elf.specs.declared.image.LoadError.TheVariants as load
 use Rattle.s161_base.specs.declared.fault.Fault.{Fault}
 use Rattle.s161_base.specs.declared.fault.Fault.TheVariants.{After, Conf, File, Image, Input, Log, LogImage, LogMachine, Memory, Never, Output, Schedule, Source, Threads, Touches, Watch, Watches, Word}
+use Rattle.s161_base.specs.declared.fault.Unloaded.{Unloaded}
+use Rattle.s161_base.specs.declared.fault.Unloaded.TheVariants as unloaded
 use Rattle.s161_base.specs.declared.fault.Unread.{Unread}
 use Rattle.s161_base.specs.declared.fault.Unread.TheVariants.{Failed, NotUtf8, TooLong}
 
--- What is wrong, or what was wanted, where a command ends early. Of a source's the line has more behind it
--- (`detail_of`).
+-- What is wrong, or what was wanted, where a command ends early. Of a source's fault and of a segment's
+-- the line has more behind it (`detail_of`).
 
 -- of a file that isn't read
 abbrev pub of_file : Unread → List ℕ
@@ -25,7 +27,7 @@ of_input Failed = codes "standard input can't be read"
 of_input TooLong = codes "at most 402653184 bytes are read"
 of_input NotUtf8 = codes "standard input isn't UTF-8"
 
--- of an image that can't be loaded
+-- of an image's file with this fault
 abbrev pub of_image : LoadError → List ℕ
 of_image load.Truncated = codes "the file is shorter than an ELF header"
 of_image load.NotElf32Big = codes "a 32-bit big-endian ELF file is wanted"
@@ -37,6 +39,11 @@ of_image load.SegmentOutsideRam = codes "a segment isn't in RAM, by kseg0 or by 
 of_image load.FileLargerThanMemory = codes "a segment has more bytes in the file than in memory"
 of_image load.BadEntry = codes "the entry isn't a multiple of 4 in RAM, by kseg0 or by kseg1"
 of_image load.NoMemory = codes "memory was refused"
+
+-- of an image that can't be loaded
+abbrev pub of_unloaded : Unloaded → List ℕ
+of_unloaded (unloaded.Load e) = of_image e
+of_unloaded (unloaded.Segment s) = codes "program header"
 
 -- of a text that can't be assembled
 abbrev pub of_source : ErrorKind → List ℕ
@@ -74,7 +81,7 @@ explanation_of (Never word) = Some (codes "1 to 8 lower case hexadecimal digits,
 explanation_of (Touches word) = Some (codes "1 to 8 lower case hexadecimal digits, a name of the image's symbols, or NAME+DIGITS, of a byte of RAM")
 explanation_of (After k why) = Some (codes "the machine refuses this event, counted from 0")
 explanation_of Conf = Some (codes "RAM has 1 to 4096 pages of 4096 bytes, there are 1 to 32 processors, and a log has 1 to 16777216 entries")
-explanation_of (Image e) = Some (of_image e)
+explanation_of (Image why) = Some (of_unloaded why)
 explanation_of (Source e) = Some (of_source e.error.kind)
 explanation_of (Threads cause) = Some (of_cause cause)
 explanation_of (Input why) = Some (of_input why)

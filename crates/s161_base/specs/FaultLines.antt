@@ -5,11 +5,14 @@ use Rattle.m161_asm.specs.Kinds.{name_of_kind, number_of_kind}
 use Rattle.m161_cause.specs.Cause.{name_of_cause}
 use Rattle.m161_elf.specs.LoadError.{name_of_fault, number_of_fault}
 use Rattle.m161_machine.specs.Refusal.{name_of_refusal, number_of_refusal}
-use Rattle.m161_text.specs.Parts.{◌␣◌, hex_text}
+use Rattle.m161_segments.specs.declared.outside.OutsideRam.{OutsideRam}
+use Rattle.m161_text.specs.Parts.{◌␣◌, hex_text, word_text}
 use Rattle.s161_base.specs.declared.fault.Fault.{Fault}
 use Rattle.s161_base.specs.declared.fault.Fault.TheVariants.{After, Conf, File, Image, Input, Log, LogImage, LogMachine, Memory, Never, Output, Schedule, Source, Threads, Touches, Watch, Watches, Word}
+use Rattle.s161_base.specs.declared.fault.Unloaded.TheVariants.{Segment}
 use Rattle.s161_base.specs.Excerpts.{characters_of}
 use Rattle.s161_base.specs.Explained.{explanation_of}
+use Rattle.s161_base.specs.Faults.{error_of}
 
 -- The line of a fault on standard error.
 
@@ -44,7 +47,8 @@ fault_head (Touches word) = codes "s161: touches" ␣ shown_name word.now
 fault_head (After k why) =
     codes "s161: after" ␣ decimal k ␣ decimal (number_of_refusal why) ␣ name_of_refusal why
 fault_head Conf = codes "s161: conf"
-fault_head (Image e) = codes "s161: image" ␣ decimal (number_of_fault e) ␣ name_of_fault e
+fault_head (Image why) =
+    codes "s161: image" ␣ decimal (number_of_fault (error_of why)) ␣ name_of_fault (error_of why)
 fault_head (Source e) = codes "s161: source" ␣ source_text e.error
 fault_head (Threads cause) = codes "s161: threads" ␣ name_of_cause cause
 fault_head Memory = codes "s161: memory"
@@ -62,9 +66,17 @@ abbrev pub quoted : List ℕ → List ℕ
 quoted [] = codes " at the line's end"
 quoted (c ∷ cs) = codes ": \"" ++ (shown_name (encode_utf8_all (c ∷ cs)) ++ codes "\"")
 
+-- a segment that isn't in RAM, behind `program header`: the number of that, its memory, and RAM
+abbrev pub segment_text : OutsideRam → List ℕ
+segment_text s =
+    codes " " ++ (decimal s.header ++ (codes "," ␣ decimal s.size ␣ codes "bytes from"
+    ␣ word_text s.address ␣ codes "on, not all in RAM of" ␣ decimal s.ram
+    ␣ codes "bytes in kseg0 or kseg1"))
+
 -- what the explanation ends with
 abbrev pub detail_of : Fault → List ℕ
 detail_of (Source e) = quoted (characters_of e.word)
+detail_of (Image (Segment s)) = segment_text s
 detail_of _ = []
 
 -- the line, without its end

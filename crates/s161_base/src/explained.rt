@@ -2,15 +2,15 @@
 //! line.
 
 ghost use Rattle.std.specs.Prelude.{◌≡◌, option_map};
-ghost use Rattle.s161_base.specs.Explained.{explanation_of, of_cause, of_file, of_image, of_input, of_source};
+ghost use Rattle.s161_base.specs.Explained.{explanation_of, of_cause, of_file, of_image, of_input, of_source, of_unloaded};
 
-use crate::fault::{Fault, Unread};
+use crate::fault::{Fault, Unloaded, Unread};
 use m161_asm::ErrorKind;
 use m161_cause::Cause;
 use m161_elf::LoadError;
 
 /// What is wrong, or what was wanted; `None` where the line of the fault says it all. Of a source's
-/// the line has more behind it (`put_detail`).
+/// fault and of a segment's the line has more behind it (`put_detail`).
 pub fn explanation(fault: &Fault<'_>) -> Option<&'static str>
     ensures { option_map (λ text. text.now) result ≡ explanation_of fault.now }
 {
@@ -36,7 +36,7 @@ pub fn explanation(fault: &Fault<'_>) -> Option<&'static str>
         Fault::Conf => Some(
             "RAM has 1 to 4096 pages of 4096 bytes, there are 1 to 32 processors, and a log has 1 to 16777216 entries",
         ),
-        Fault::Image(error) => Some(of_image(error)),
+        Fault::Image(why) => Some(of_unloaded(why)),
         Fault::Source(at) => Some(of_source(at.error.kind)),
         Fault::Threads(cause) => Some(of_cause(cause)),
         Fault::Input(why) => Some(of_input(why)),
@@ -68,6 +68,16 @@ fn of_input(why: Unread) -> &'static str
 }
 
 // Of an image that can't be loaded.
+fn of_unloaded(why: Unloaded) -> &'static str
+    ensures { result.now ≡ of_unloaded why }
+{
+    match why {
+        Unloaded::Load(error) => of_image(error),
+        Unloaded::Segment(_) => "program header",
+    }
+}
+
+// Of an image's file with this fault.
 fn of_image(error: LoadError) -> &'static str
     ensures { result.now ≡ of_image error }
 {

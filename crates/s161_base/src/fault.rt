@@ -1,7 +1,7 @@
 //! Why a command ends early.
 
 ghost use Rattle.std.specs.Prelude.{◌≡◌};
-ghost use Rattle.s161_base.specs.Faults.{fault_of_boot, fault_of_first, fault_of_load, fault_of_log, fault_of_schedule, fault_of_watches, IsFaultOfSource};
+ghost use Rattle.s161_base.specs.Faults.{error_of, fault_of_boot, fault_of_first, fault_of_load, fault_of_log, fault_of_schedule, fault_of_watches, unloaded_in, IsFaultOfSource};
 ghost use Rattle.s161_base.specs.declared.fault.Fault.TheVariants.{Memory};
 
 use crate::excerpt::{SourceError, excerpt_at};
@@ -9,6 +9,7 @@ use m161_asm::{AsmError, ErrorKind};
 use m161_cause::Cause;
 use m161_elf::LoadError;
 use m161_machine::{BootError, Refusal};
+use m161_segments::{OutsideRam, first_outside_ram};
 use std::alloc::AllocError;
 use std::error::Error;
 
@@ -21,6 +22,27 @@ pub enum Unread {
     TooLong,
     /// It is a text, and its bytes aren't UTF-8.
     NotUtf8,
+}
+
+/// Why an image can't be loaded.
+#[derive(Clone, Copy, Debug)]
+pub enum Unloaded {
+    /// This fault of its file.
+    Load(LoadError),
+    /// A segment isn't in the machine's RAM, `LoadError::SegmentOutsideRam`: this one is the first.
+    Segment(OutsideRam),
+}
+
+impl Unloaded {
+    /// The fault of the file.
+    pub(crate) fn error(self) -> LoadError
+        ensures { result ≡ error_of self }
+    {
+        match self {
+            Unloaded::Load(error) => error,
+            Unloaded::Segment(_) => LoadError::SegmentOutsideRam,
+        }
+    }
 }
 
 /// Why a command ends early; its text is the line on standard error.
@@ -49,7 +71,7 @@ pub enum Fault<'a> {
     /// The machine's size is outside the limits.
     Conf,
     /// The image can't be loaded.
-    Image(LoadError),
+    Image(Unloaded),
     /// The text can't be assembled.
     Source(SourceError),
     /// A run in threads has no report.
@@ -80,20 +102,33 @@ impl<'a> From<LoadError> for Fault<'a> {
     fn from(error: LoadError) -> Fault<'a> {
         match error {
             LoadError::NoMemory => Fault::Memory,
-            other => Fault::Image(other),
+            other => Fault::Image(Unloaded::Load(other)),
         }
     }
 }
 
-impl<'a> From<BootError> for Fault<'a> {
-    ghost from_gives = { λ error fault. fault ≡ fault_of_boot error };
+/// The fault of a boot of this file in a machine with `ram` bytes of RAM. Where a segment isn't in RAM
+/// it has the first such segment; so no `From<BootError>` stands beside it, which couldn't look for one.
+pub fn fault_of_boot<'a>(error: BootError, file: &[u8], ram: u32) -> Fault<'a>
+    ensures { result ≡ fault_of_boot file.now ram error }
+{
+    match error {
+        BootError::BadConf => Fault::Conf,
+        BootError::Load(error) => Fault::Image(unloaded_in(file, ram, error)),
+        BootError::NoMemory => Fault::Memory,
+    }
+}
 
-    fn from(error: BootError) -> Fault<'a> {
-        match error {
-            BootError::BadConf => Fault::Conf,
-            BootError::Load(error) => Fault::Image(error),
-            BootError::NoMemory => Fault::Memory,
-        }
+// Why a file isn't loaded, by its fault.
+fn unloaded_in(file: &[u8], ram: u32, error: LoadError) -> Unloaded
+    ensures { result ≡ unloaded_in file.now ram error }
+{
+    match error {
+        LoadError::SegmentOutsideRam => match first_outside_ram(file, ram) {
+            Some(segment) => Unloaded::Segment(segment),
+            None => Unloaded::Load(LoadError::SegmentOutsideRam),
+        },
+        other => Unloaded::Load(other),
     }
 }
 

@@ -2,14 +2,15 @@
 
 ghost use Rattle.std.specs.Prelude.{◌≡◌, ◌<◌, Some, encode_utf8_all};
 ghost use Rattle.std.specs.Fmt.{WritesOnOk};
-ghost use Rattle.s161_base.specs.FaultLines.{detail_of, fault_head, fault_line, is_marked, quoted, shown_name, source_text};
+ghost use Rattle.s161_base.specs.FaultLines.{detail_of, fault_head, fault_line, is_marked, quoted, segment_text, shown_name, source_text};
 ghost use Rattle.s161_base.specs.helpers.FaultLines.{image_text, place_text, shown_char};
 
 use crate::explained::explanation;
-use crate::fault::Fault;
+use crate::fault::{Fault, Unloaded};
 use m161_asm::AsmError;
 use m161_elf::LoadError;
-use m161_text::Byte;
+use m161_segments::OutsideRam;
+use m161_text::{Byte, Word};
 use std::fmt;
 
 // A file's name or a word, without the bytes that would end a line or begin an explanation.
@@ -119,8 +120,8 @@ impl fmt::Display for Head<'_> {
                 write!(f, "s161: after {k} {number} {name}")
             }
             Fault::Conf => write!(f, "s161: conf"),
-            Fault::Image(error) => {
-                let image = ImageText(error);
+            Fault::Image(why) => {
+                let image = ImageText(why.error());
                 write!(f, "s161: image {image}")
             }
             Fault::Source(at) => {
@@ -171,6 +172,28 @@ impl fmt::Display for Quoted<'_> {
     }
 }
 
+// A segment that isn't in RAM, behind the words that name it.
+#[derive(Drop)]
+struct SegmentText(OutsideRam);
+
+impl fmt::Display for SegmentText {
+    ghost output = { λ segment. Some (segment_text segment.0) };
+
+    fn fmt<W: fmt::Write>(&self, f: &mut fmt::Formatter<W>) -> fmt::Result {
+        let OutsideRam {
+            header,
+            size,
+            address,
+            ram,
+        } = self.0;
+        let address = Word(address);
+        write!(
+            f,
+            " {header}, {size} bytes from {address} on, not all in RAM of {ram} bytes in kseg0 or kseg1"
+        )
+    }
+}
+
 // What the explanation of a fault ends with.
 #[derive(Drop)]
 struct Detail<'a>(Fault<'a>);
@@ -183,6 +206,10 @@ impl fmt::Display for Detail<'_> {
             Fault::Source(at) => {
                 let quoted = Quoted(at.word.characters());
                 write!(f, "{quoted}")
+            }
+            Fault::Image(Unloaded::Segment(segment)) => {
+                let segment = SegmentText(segment);
+                write!(f, "{segment}")
             }
             _ => Ok(()),
         }

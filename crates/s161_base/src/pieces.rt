@@ -2,7 +2,7 @@
 
 ghost use Rattle.std.specs.Prelude.{◌≡◌, ◌<◌, ◌≤◌, ◌∷◌, [], IfErr, IfOk, decimal, encode_utf8, encode_utf8_all, length, take};
 ghost use Rattle.std.specs.Io.KnownBytes.{Appends};
-ghost use Rattle.m161_text.specs.Parts.{hex_digit};
+ghost use Rattle.m161_text.specs.Parts.{hex_digit, hex_text};
 ghost use Rattle.s161_base.specs.FaultLines.{is_marked, shown_byte, shown_name};
 ghost use Rattle.s161_base.specs.Streams.{AppendsSome};
 ghost use Rattle.s161_base.specs.helpers.Pieces.{Puts};
@@ -46,6 +46,21 @@ fn hex_digit(digit: u8) -> u8
     } else {
         b'a' + (digit - 10)
     }
+}
+
+/// Writes a number's last hexadecimal digits, in lower case.
+pub(crate) fn put_hex<'a, E: Write>(
+    digits: u32,
+    number: u32,
+    errors: &mut E,
+) -> Result<(), Fault<'a>>
+    ensures { Puts (E.contents errors.old) (hex_text digits number) result (E.contents errors.new) }
+{
+    if digits == 0 {
+        return Ok(());
+    }
+    put_hex(digits - 1, number / 16, errors)?;
+    put_byte(hex_digit((number % 16) as u8), errors)
 }
 
 // Whether a byte is written by its number.

@@ -8,15 +8,17 @@ ghost use Rattle.m161_machine.specs.Refusal.{name_of_refusal, number_of_refusal}
 ghost use Rattle.m161_text.specs.Lines.{with_line_end};
 ghost use Rattle.m161_text.specs.Parts.{◌␣◌};
 ghost use Rattle.s161_base.specs.Explained.{explanation_of};
-ghost use Rattle.s161_base.specs.FaultLines.{detail_of, fault_head, fault_line, in_brackets, quoted, source_text};
+ghost use Rattle.s161_base.specs.FaultLines.{detail_of, fault_head, fault_line, in_brackets, quoted, segment_text, source_text};
 ghost use Rattle.s161_base.specs.Streams.{AppendsSome};
+ghost use Rattle.s161_base.specs.helpers.FaultLines.{outside_text};
 ghost use Rattle.s161_base.specs.helpers.Pieces.{Puts};
 
 use crate::explained::explanation;
-use crate::fault::Fault;
-use crate::pieces::{put, put_characters, put_name, put_number};
+use crate::fault::{Fault, Unloaded};
+use crate::pieces::{put, put_characters, put_hex, put_name, put_number};
 use m161_asm::AsmError;
 use m161_machine::Refusal;
+use m161_segments::OutsideRam;
 use std::io::Write;
 
 // Writes two texts.
@@ -100,8 +102,9 @@ fn put_head<'a, E: Write>(fault: Fault<'_>, errors: &mut E) -> Result<(), Fault<
             put_refusal(k, refusal, errors)
         }
         Fault::Conf => put("s161: conf", errors),
-        Fault::Image(error) => {
+        Fault::Image(why) => {
             put("s161: image ", errors)?;
+            let error = why.error();
             put_error(error.number(), error.name(), errors)
         }
         Fault::Source(at) => {
@@ -127,12 +130,32 @@ fn put_quoted<'a, E: Write>(characters: &[char], errors: &mut E) -> Result<(), F
     put("\"", errors)
 }
 
+// Writes where a segment is and how large RAM is.
+fn put_outside<'a, E: Write>(segment: OutsideRam, errors: &mut E) -> Result<(), Fault<'a>>
+    ensures { Puts (E.contents errors.old) (outside_text segment) result (E.contents errors.new) }
+{
+    put(" bytes from ", errors)?;
+    put_hex(8, segment.address, errors)?;
+    put_numbered(" on, not all in RAM of ", u64::from(segment.ram), errors)?;
+    put(" bytes in kseg0 or kseg1", errors)
+}
+
+// Writes a segment that isn't in RAM.
+fn put_segment<'a, E: Write>(segment: OutsideRam, errors: &mut E) -> Result<(), Fault<'a>>
+    ensures { Puts (E.contents errors.old) (segment_text segment) result (E.contents errors.new) }
+{
+    put_numbered(" ", u64::from(segment.header), errors)?;
+    put_numbered(", ", u64::from(segment.size), errors)?;
+    put_outside(segment, errors)
+}
+
 // Writes what the explanation of a fault ends with.
 fn put_detail<'a, E: Write>(fault: Fault<'_>, errors: &mut E) -> Result<(), Fault<'a>>
     ensures { Puts (E.contents errors.old) (detail_of fault.entry) result (E.contents errors.new) }
 {
     match fault {
         Fault::Source(at) => put_quoted(at.word.characters(), errors),
+        Fault::Image(Unloaded::Segment(segment)) => put_segment(segment, errors),
         _ => Ok(()),
     }
 }

@@ -1,7 +1,3 @@
-use Rattle.std.proofs.Common.{◌≡◌, ◌∙◌, ◌++◌, ap, sym, encode_utf8, length, take, drop, ◌-◌}
-use Rattle.std.specs.Prelude.{encode_utf8_all}
-use Rattle.std.proofs.lemmas.List.Concat.{flat_map-append}
-use Rattle.s161_base.specs.FaultLines.{shown_byte, shown_name}
 use Rattle.s161_base.proofs.Putting.{puts_less, puts_same, puts_then}
 use Rattle.s161_base.proofs.Words.{rest_put}
 use Rattle.s161_base.proofs.pieces.+put_characters.Goals as goal

@@ -1,4 +1,5 @@
-use Rattle.std.proofs.Common.{ap, codes, decimal, inl, inr, ◌++◌}
+use Rattle.std.proofs.Common.{ap, codes, decimal, inl, inr, ◌++◌, ◌∙◌}
+use Rattle.m161_elf.specs.LoadError.{name_of_fault, number_of_fault}
 use Rattle.m161_text.specs.Parts.{◌␣◌}
 use Rattle.s161_base.proofs.Putting.{puts_less, puts_same, puts_then}
 use Rattle.s161_base.proofs.report.put_head.Goals as goal
@@ -27,7 +28,8 @@ returns-in_err-put-in-Image g c = rw c.in-Image.is (puts_less _ _ _ _ _ _ c.in_e
 
 pub returns-in_ok-put-in-Image : goal.returns-in_ok-put-in-Image
 returns-in_ok-put-in-Image g c = rw c.in-Image.is (puts_then _ _ _ _ _ _ c.in_ok-put-in-Image.ensures
-    (puts_same _ _ _ _ _ (λ i. decimal (c.number.ensures i) ␣ c.name.ensures i) c.put_error.ensures))
+    (puts_same _ _ _ _ _ ((λ i. decimal (c.number.ensures i) ␣ c.name.ensures i)
+    ∙ ap (λ e. decimal (number_of_fault e) ␣ name_of_fault e) c.error-error.ensures) c.put_error.ensures))
 
 pub returns-in_err-put-in-Source : goal.returns-in_err-put-in-Source
 returns-in_err-put-in-Source g c = rw c.in-Source.is (puts_less _ _ _ _ _ _ c.in_err-put-in-Source.ensures c.from_residual-in_err-put-in-Source.ensures.1)
