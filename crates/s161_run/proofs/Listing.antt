@@ -1,17 +1,14 @@
-use Rattle.std.proofs.Common.{◌≡◌, ℕ, Bor, List, Option, None, Some, Err, IfSome, inl, inr, refl, subst}
-use Rattle.m161_machine.specs.declared.conf.BootError.{BootError}
-use Rattle.m161_machine.specs.declared.conf.BootError.TheVariants.{Load}
+use Rattle.std.proofs.Common.{◌≡◌, ℕ, Bor, List, Option, None, Some, IfSome, inl, inr}
 use Rattle.m161_machine.specs.declared.conf.Conf.{Conf as MachineConf}
 use Rattle.m161_machine.specs.declared.event.Event.{Event}
-use Rattle.m161_machine.specs.History.{BootsState, boot_fault}
 use Rattle.s161_command.specs.declared.drive.Drive.{Drive}
 use Rattle.s161_command.specs.declared.task.AskedSize.{AskedSize}
 use Rattle.s161_command.specs.declared.task.RunTask.{RunTask}
-use Rattle.s161_base.proofs.Failing.{state_failed}
+use Rattle.s161_base.proofs.Failing.{boot_failed}
 use Rattle.s161_base.proofs.Listing.{named_fault}
 use Rattle.s161_base.specs.declared.fault.Fault.{Fault}
 use Rattle.s161_base.specs.declared.fault.Fault.TheVariants.{After, Conf, File, Image, Input, Log, LogImage, LogMachine, Memory, Never, Output, Schedule, Source, Threads, Touches, Watch, Watches, Word}
-use Rattle.s161_base.specs.Faults.{fault_of_boot}
+use Rattle.s161_base.specs.Faults.{IsBootFault}
 use Rattle.s161_base.specs.Known.{IsText}
 use Rattle.s161_base.specs.Listed.{IsListFault, IsTextOf, ListsFor, ListsNoFirst, ListsNone}
 use Rattle.s161_run.specs.Driven.{AreInputs, IsOrderFault}
@@ -56,13 +53,13 @@ module _ (task : RunTask) (known input : Option (List ℕ)) (file text : List �
       (λ none. (file, is_file, (text, is, (utf8, none)))) (λ none. (file, is_file, (text, is, (utf8, none)))) fault h
 
   -- it lists events, and the image isn't booted
-  pub unbooted : (events : List Event) (conf : MachineConf) (e : BootError) → ListsFor task.size file text events conf →
-      BootsState file conf (boot_fault file conf) (Err e) → IsFaultOf task known input (fault_of_boot e)
-  unbooted events conf e lists answer =
-      state_failed (IsFaultOf task known input) (Some file) conf file e refl
+  pub unbooted : (events : List Event) (conf : MachineConf) (fault : Fault) → ListsFor task.size file text events conf →
+      IsBootFault file conf fault → IsFaultOf task known input fault
+  unbooted events conf fault lists h =
+      boot_failed (IsFaultOf task known input) file conf fault
       (λ outside. (file, is_file, (text, is, (utf8, (events, conf, lists, outside)))))
-      (λ x has. (file, is_file, (text, is, (utf8, (events, conf, lists, subst (λ f. boot_fault f conf ≡ Some (Load x)) has.1 has.2)))))
-      tt answer
+      (λ why is_so. (file, is_file, (text, is, (utf8, (events, conf, lists, is_so)))))
+      tt h
 
 -- Why the first events of an order aren't listed.
 
@@ -78,10 +75,10 @@ module _ (image : Bor (List ℕ)) (size : AskedSize) (options : Drive) (files : 
       (λ none. (file, is_file, (Some text, is, none))) (λ none. (file, is_file, (Some text, is, none))) fault h
 
   -- they are listed, and the image isn't booted
-  pub order_unbooted : (keys : List ℕ) (first : List Event) (conf : MachineConf) (e : BootError) → AreInputs size options files known file keys first conf →
-      BootsState file conf (boot_fault file conf) (Err e) → OrderFault (fault_of_boot e)
-  order_unbooted keys first conf e inputs answer =
-      state_failed OrderFault (Some file) conf file e refl
+  pub order_unbooted : (keys : List ℕ) (first : List Event) (conf : MachineConf) (fault : Fault) → AreInputs size options files known file keys first conf →
+      IsBootFault file conf fault → OrderFault fault
+  order_unbooted keys first conf fault inputs h =
+      boot_failed OrderFault file conf fault
       (λ outside. (file, is_file, (inputs.text, first, conf, inputs.is_text, inputs.lists, outside)))
-      (λ x has. (file, is_file, (inputs.text, first, conf, inputs.is_text, inputs.lists, subst (λ f. boot_fault f conf ≡ Some (Load x)) has.1 has.2)))
-      tt answer
+      (λ why is_so. (file, is_file, (inputs.text, first, conf, inputs.is_text, inputs.lists, is_so)))
+      tt h

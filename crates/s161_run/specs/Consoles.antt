@@ -1,9 +1,7 @@
-use Rattle.std.specs.Prelude.{◌≡◌, ◌⊎◌, ℕ, ◌≤◌, true, false, List, [], ◌++◌, length, take, Option, Some, IfSome}
+use Rattle.std.specs.Prelude.{◌≡◌, ◌⊎◌, ℕ, ◌≤◌, true, false, List, [], ◌++◌, length, take, Option, IfSome}
 use Rattle.std.specs.Io.KnownBytes.{Appends, Consumes}
-use Rattle.m161_machine.specs.declared.conf.BootError.TheVariants.{Load}
 use Rattle.m161_machine.specs.declared.event.Entry.{Entry}
 use Rattle.m161_machine.specs.Conf.{is_within_limits}
-use Rattle.m161_machine.specs.History.{boot_fault}
 use Rattle.m161_machine.specs.State.{State}
 use Rattle.m161_drive.specs.declared.cursor.Cursor.{Cursor}
 use Rattle.m161_drive.specs.declared.run.Driven.{Driven}
@@ -18,7 +16,7 @@ use Rattle.s161_run.specs.declared.events.RunStop.{RunStop}
 use Rattle.s161_base.specs.declared.fault.Fault.{Fault}
 use Rattle.s161_base.specs.declared.fault.Fault.TheVariants.{Conf, File, Image, Input, Memory, Output}
 use Rattle.s161_base.specs.declared.fault.Unread.TheVariants.{Failed}
-use Rattle.s161_base.specs.Faults.{BootsIn}
+use Rattle.s161_base.specs.Faults.{BootsIn, IsUnloaded}
 use Rattle.s161_base.specs.Known.{OfKnown}
 use Rattle.s161_base.specs.Reading.{IsOfBytes}
 use Rattle.s161_base.specs.Samples.{IsFileName}
@@ -99,8 +97,8 @@ abbrev pub IsEarlyFault : ConsoleTask → Option (List ℕ) → Fault → Type 0
 IsEarlyFault task known (File name why) =
     (name.now ≡ task.image.now) × IsFileName task.image.now × IsOfBytes why
 IsEarlyFault task known Conf = is_within_limits (conf_of task.size) ≡ false
-IsEarlyFault task known (Image e) =
-    OfKnown known (λ file. boot_fault file (conf_of task.size) ≡ Some (Load e))
+IsEarlyFault task known (Image why) =
+    OfKnown known (λ file. IsUnloaded file (conf_of task.size) why)
 IsEarlyFault task known Memory = Unit {0}
 IsEarlyFault task known _ = ⊥
 

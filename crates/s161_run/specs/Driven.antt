@@ -1,11 +1,10 @@
 use Rattle.std.specs.Prelude.{◌≡◌, ◌⊎◌, ℕ, false, List, [], ◌++◌, Option, None, Some, IfSome}
 use Rattle.std.proofs.Common.{Bor}
-use Rattle.m161_machine.specs.declared.conf.BootError.TheVariants.{Load}
 use Rattle.m161_machine.specs.declared.conf.Conf.{Conf as MachineConf}
 use Rattle.m161_machine.specs.declared.event.Entry.{Entry}
 use Rattle.m161_machine.specs.declared.event.Event.{Event}
 use Rattle.m161_machine.specs.Conf.{is_within_limits}
-use Rattle.m161_machine.specs.History.{boot_fault, events_of}
+use Rattle.m161_machine.specs.History.{events_of}
 use Rattle.m161_machine.specs.State.{State}
 use Rattle.m161_drive.specs.declared.run.Driven.{Driven}
 use Rattle.m161_drive.specs.Policy.{Rules}
@@ -18,7 +17,7 @@ use Rattle.s161_run.specs.Runs.{log_of_run, summary_text, told_traps}
 use Rattle.s161_base.specs.Asked.{image_files, option_files}
 use Rattle.s161_base.specs.declared.fault.Fault.{Fault}
 use Rattle.s161_base.specs.declared.fault.Fault.TheVariants.{Conf, File, Image, Log, LogImage, LogMachine, Memory, Schedule}
-use Rattle.s161_base.specs.Faults.{BootsIn}
+use Rattle.s161_base.specs.Faults.{BootsIn, IsUnloaded}
 use Rattle.s161_base.specs.Listed.{IsTextOf, ListsFirst, OfFirst, OfNoFirst}
 use Rattle.s161_base.specs.Reading.{IsFileUnread, IsOfBytes, IsTextUnread}
 use Rattle.s161_base.specs.Samples.{IsFileName}
@@ -108,8 +107,8 @@ IsOrderFault image size options files known LogImage =
     OfNoFirst size known options.after files LogImage
 IsOrderFault image size options files known Conf =
     OfFirst size known options.after files (λ file first conf. is_within_limits conf ≡ false)
-IsOrderFault image size options files known (Image e) =
-    OfFirst size known options.after files (λ file first conf. boot_fault file conf ≡ Some (Load e))
+IsOrderFault image size options files known (Image why) =
+    OfFirst size known options.after files (λ file first conf. IsUnloaded file conf why)
 IsOrderFault image size options files known Memory = Unit {0}
 IsOrderFault image size options files known _ = ⊥
 

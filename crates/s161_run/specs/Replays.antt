@@ -1,5 +1,4 @@
 use Rattle.std.specs.Prelude.{◌≡◌, ◌⊎◌, ℕ, false, List, Option, None, Some, Ok, IfSome, codes, decimal, [], ◌∷◌, ◌++◌}
-use Rattle.m161_machine.specs.declared.conf.BootError.TheVariants.{Load}
 use Rattle.m161_machine.specs.declared.event.Entry.{Entry}
 use Rattle.m161_machine.specs.Conf.{is_within_limits}
 use Rattle.m161_machine.specs.History.{boot_fault}
@@ -13,6 +12,7 @@ use Rattle.s161_command.specs.declared.task.ReplayTask.{ReplayTask}
 use Rattle.s161_base.specs.Asked.{image_files}
 use Rattle.s161_base.specs.declared.fault.Fault.{Fault}
 use Rattle.s161_base.specs.declared.fault.Fault.TheVariants.{Conf, File, Image, Log, LogImage, LogMachine, Memory}
+use Rattle.s161_base.specs.Faults.{IsUnloaded}
 use Rattle.s161_base.specs.Known.{IsText, OfKnown, OfText}
 use Rattle.s161_base.specs.declared.machines.LoggedMachine.{LoggedMachine}
 use Rattle.s161_base.specs.declared.machines.NamedMachine.TheVariants.{Logged}
@@ -80,8 +80,8 @@ IsReplayFault task image log LogImage =
 IsReplayFault task image log Conf =
     OfReplay image log (λ file logged. (machine_fault task.size file (Some (Logged logged)) ≡ None)
     × (is_within_limits (asked_conf task.size (Some (Logged logged))) ≡ false))
-IsReplayFault task image log (Image e) =
+IsReplayFault task image log (Image why) =
     OfReplay image log (λ file logged. (machine_fault task.size file (Some (Logged logged)) ≡ None)
-    × (boot_fault file (asked_conf task.size (Some (Logged logged))) ≡ Some (Load e)))
+    × IsUnloaded file (asked_conf task.size (Some (Logged logged))) why)
 IsReplayFault task image log Memory = Unit {0}
 IsReplayFault task image log _ = ⊥

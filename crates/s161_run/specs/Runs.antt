@@ -3,7 +3,6 @@ use Rattle.std.specs.List.{range_with_len}
 use Rattle.sha2.specs.Sha256.{sha256}
 use Rattle.m161_cpu.specs.declared.processor.ProcessorState.{ProcessorState}
 use Rattle.m161_cpu.specs.declared.processor.ProcessorState.TheVariants.{Stopped, Running, Waiting}
-use Rattle.m161_machine.specs.declared.conf.BootError.TheVariants.{Load}
 use Rattle.circular_buffer.specs.Buffer.{keep_last}
 use Rattle.m161_machine.specs.declared.conf.Conf.{Conf as MachineConf}
 use Rattle.m161_machine.specs.declared.event.Conflict.{Conflict}
@@ -13,7 +12,7 @@ use Rattle.m161_machine.specs.declared.event.Refusal.{Refusal}
 use Rattle.m161_machine.specs.Conf.{is_within_limits}
 use Rattle.m161_machine.specs.Refusal.{name_of_refusal, number_of_refusal}
 use Rattle.m161_machine.specs.State.{State, next, processor_at}
-use Rattle.m161_machine.specs.History.{Leads, Refuses, boot_fault, events_of}
+use Rattle.m161_machine.specs.History.{Leads, Refuses, events_of}
 use Rattle.m161_display.specs.Shows.{show_regs_text}
 use Rattle.m161_text.specs.Lines.{with_line_end}
 use Rattle.m161_traps.specs.Shown.{traps_text}
@@ -30,7 +29,7 @@ use Rattle.s161_run.specs.declared.events.RunStop.{RunStop}
 use Rattle.s161_run.specs.declared.events.RunStop.TheVariants.{Off, Conflict as ConflictStop, End, Stuck, Refused}
 use Rattle.s161_base.specs.declared.fault.Fault.{Fault}
 use Rattle.s161_base.specs.declared.fault.Fault.TheVariants.{Conf, File, Image, Input, Log, LogImage, LogMachine, Memory, Schedule}
-use Rattle.s161_base.specs.Faults.{BootsIn}
+use Rattle.s161_base.specs.Faults.{BootsIn, IsUnloaded}
 use Rattle.s161_base.specs.Known.{IsText, OfText}
 use Rattle.s161_base.specs.Listed.{IsListFault, ListsFor, OfListed, OfUnlisted}
 use Rattle.s161_base.specs.Reading.{IsOfBytes, IsOfText}
@@ -201,7 +200,7 @@ IsFaultOf task known input LogMachine = OfUnlisted task.size known input LogMach
 IsFaultOf task known input LogImage = OfUnlisted task.size known input LogImage
 IsFaultOf task known input Conf =
     OfListed task.size known input (λ file conf. is_within_limits conf ≡ false)
-IsFaultOf task known input (Image e) =
-    OfListed task.size known input (λ file conf. boot_fault file conf ≡ Some (Load e))
+IsFaultOf task known input (Image why) =
+    OfListed task.size known input (λ file conf. IsUnloaded file conf why)
 IsFaultOf task known input Memory = Unit {0}
 IsFaultOf task known input _ = ⊥

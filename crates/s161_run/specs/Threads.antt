@@ -1,5 +1,4 @@
 use Rattle.std.specs.Prelude.{◌≡◌, ℕ, ◌*◌, ◌≤◌, Bool, false, if◌then◌else◌, List, Option, None, Some, IfSome, replicate}
-use Rattle.m161_machine.specs.declared.conf.BootError.TheVariants.{Load}
 use Rattle.m161_machine.specs.declared.event.Conflict.{Conflict}
 use Rattle.m161_machine.specs.Conf.{is_within_limits}
 use Rattle.m161_machine.specs.History.{History, boot_fault, events_of}
@@ -11,7 +10,7 @@ use Rattle.s161_run.specs.declared.events.RunStop.TheVariants.{End}
 use Rattle.s161_base.specs.declared.fault.Fault.{Fault}
 use Rattle.s161_base.specs.declared.fault.Fault.TheVariants.{Conf, File, Image, Memory, Threads}
 use Rattle.s161_run.specs.Runs.{shown_log, stop_off, summary_text, told_traps}
-use Rattle.s161_base.specs.Faults.{BootsTo}
+use Rattle.s161_base.specs.Faults.{BootsTo, IsUnloaded}
 use Rattle.s161_base.specs.Known.{OfKnown}
 use Rattle.s161_base.specs.Reading.{IsOfBytes}
 use Rattle.s161_base.specs.Samples.{IsFileName}
@@ -62,8 +61,8 @@ abbrev pub IsThreadsFault : ThreadsTask → Option (List ℕ) → Fault → Type
 IsThreadsFault task known (File name why) =
     (name.now ≡ task.run.image.now) × IsFileName task.run.image.now × IsOfBytes why
 IsThreadsFault task known Conf = is_within_limits (conf_asked task.run.size) ≡ false
-IsThreadsFault task known (Image e) =
-    OfKnown known (λ file. boot_fault file (conf_asked task.run.size) ≡ Some (Load e))
+IsThreadsFault task known (Image why) =
+    OfKnown known (λ file. IsUnloaded file (conf_asked task.run.size) why)
 IsThreadsFault task known (Threads cause) =
     OfKnown known (λ file. boot_fault file (conf_asked task.run.size) ≡ None)
     × IsCause (bad_call (threads_of task) (threads_of task) task.burst) cause

@@ -7,10 +7,10 @@ ghost use Rattle.s161_base.specs.Samples.{image_file};
 ghost use Rattle.s161_base.specs.Streams.{streams};
 ghost use Rattle.s161_run.specs.Consoles.{IsConsoleRun, IsConsoleFault};
 
+use crate::booted::boot_core;
 use crate::driven::stop_of;
 use crate::events::RunStop;
 use crate::serving::serve;
-use m161::Core;
 use s161_base::fault::Fault;
 use s161_base::files::FileSource;
 use s161_base::sample::read_image;
@@ -47,7 +47,7 @@ pub fn console<'a, F: FileSource, I: Read, O: Write>(
         (F.asked files.new) }
 {
     let file = read_image(alloc, files, task.image)?;
-    let mut core = Core::boot(alloc, &file, conf_of(task.size))?;
+    let mut core = boot_core(alloc, &file, conf_of(task.size))?;
     let driven = serve(&mut core, task.drive, input, output)?;
     Ok(stop_of(driven, &core))
 }

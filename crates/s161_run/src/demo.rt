@@ -3,7 +3,7 @@
 ghost use Rattle.std.specs.Prelude.{◌≡◌, IfErr, IfOk, string_bytes};
 ghost use Rattle.s161_run.specs.Demos.{IsDemo};
 
-use m161::Machine;
+use crate::booted::boot_machine;
 use m161_display::show_regs;
 use m161_isa::LinkUnit;
 use m161_machine::Conf;
@@ -51,7 +51,7 @@ pub fn demo<'a>(alloc: Global) -> Result<String, Fault<'a>>
     ensures ok { IfOk result (λ text. IsDemo (string_bytes text)) }
     ensures err { IfErr result (λ fault. fault ≡ Fault.Memory) }
 {
-    let mut machine = Machine::boot(alloc, &IMAGE, CONF)?;
+    let mut machine = boot_machine(alloc, &IMAGE, CONF)?;
     let _ = machine.steps(0, STEPS);
     Ok(show_regs(alloc, machine.core(), 0)?)
 }

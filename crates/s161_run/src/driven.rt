@@ -6,6 +6,7 @@ ghost use Rattle.s161_base.specs.Asked.{AsksFor};
 ghost use Rattle.s161_base.specs.Samples.{image_file};
 ghost use Rattle.s161_run.specs.Driven.{IsDriven, IsDrivenFault, driven_files, stop_of};
 
+use crate::booted::boot_core;
 use crate::events::{RunStop, stop_off};
 use crate::inputs::{Inputs, read_inputs};
 use crate::log::new_log;
@@ -40,7 +41,7 @@ pub fn run_driven<'a, F: FileSource>(
 {
     let read = read_inputs(alloc, files, task.run.image, task.run.size, task.drive)?;
     let Inputs { file, keys, first } = read;
-    let mut core = Core::boot(alloc, &file, first.conf)?;
+    let mut core = boot_core(alloc, &file, first.conf)?;
     let log = new_log(alloc, first.conf, task.run.shown)?;
     let events = &first.events;
     let made = make_chosen(

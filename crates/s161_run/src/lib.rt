@@ -5,6 +5,7 @@
 #![tactic(auto)]
 
 pub mod behind;
+pub mod booted;
 pub mod console;
 pub mod demo;
 pub mod driven;

@@ -1,14 +1,18 @@
 //! Replaying a log.
 
-ghost use Rattle.std.specs.Prelude.{◌≡◌, IfErr, IfOk, string_bytes};
+ghost use Rattle.std.specs.Prelude.{◌≡◌, IfErr, IfOk, Ok, string_bytes};
+ghost use Rattle.m161_machine.specs.History.{boot_fault};
+ghost use Rattle.m161_steplog.specs.Verdict.{Verifies};
 ghost use Rattle.m161_text.specs.Lines.{with_line_end};
 ghost use Rattle.s161_base.specs.Asked.{AsksFor};
+ghost use Rattle.s161_base.specs.Faults.{IsBootFault};
 ghost use Rattle.s161_run.specs.Replays.{IsReplayed, IsReplayFault, replay_files, status_of_verdict, verdict_text};
 ghost use Rattle.s161_base.specs.Samples.{image_file};
 
 use m161::{Console, Tlb};
+use m161_machine::{Conf, Entry};
 use m161_steplog::{Comparison, verify_with};
-use s161_base::fault::Fault;
+use s161_base::fault::{Fault, fault_of_boot};
 use s161_base::files::FileSource;
 use s161_base::finished::Finished;
 use s161_base::input::read_text;
@@ -52,14 +56,31 @@ pub fn replay<'a, F: FileSource>(
         return Err(fault);
     }
     let conf = asked_conf(task.size, named);
-    progress.begin(Unit::Events, Some(log.entries.len() as u64));
-    let verdict =
-        verify_with::<Tlb, Console, Progress>(alloc, image, conf, &log.entries, progress)?;
+    let verdict = verify_log(alloc, image, conf, &log.entries, progress)?;
     let shown = verdict_line(alloc, verdict)?;
     Ok(Finished {
         text: shown.into_bytes(),
         status: status(verdict),
     })
+}
+
+// Boots an image, and makes a log's events until one is refused or its outcome differs.
+fn verify_log<'a>(
+    alloc: Global,
+    image: &[u8],
+    conf: Conf,
+    log: &[Entry],
+    progress: &Progress,
+) -> Result<Comparison, Fault<'a>>
+    ensures ok { IfOk result (λ verdict. Verifies image.now conf (boot_fault image.now conf) log.now
+        (Ok verdict)) }
+    ensures fault { IfErr result (IsBootFault image.now conf) }
+{
+    progress.begin(Unit::Events, Some(log.len() as u64));
+    match verify_with::<Tlb, Console, Progress>(alloc, image, conf, log, progress) {
+        Ok(verdict) => Ok(verdict),
+        Err(error) => Err(fault_of_boot(error, image, conf.ram)),
+    }
 }
 
 // The text of a verdict.

@@ -5,10 +5,10 @@ ghost use Rattle.s161_run.specs.Runs.{IsFaultOf, IsRun};
 ghost use Rattle.s161_base.specs.Asked.{AsksFor, IsBeforeInput, image_files};
 ghost use Rattle.s161_base.specs.Samples.{image_file};
 
+use crate::booted::boot_core;
 use crate::log::new_log;
 use crate::made::make_scheduled;
 use crate::summary::{Ran, finish_run};
-use m161::Core;
 use s161_base::fault::Fault;
 use s161_base::files::FileSource;
 use s161_base::input::read_input;
@@ -45,7 +45,7 @@ pub fn run<'a, F: FileSource, I: Read>(
     let image = file.as_slice();
     let schedule = read_input(alloc, input)?;
     let run = plan_run(alloc, task.size, image, schedule.as_str())?;
-    let mut core = Core::boot(alloc, image, run.conf)?;
+    let mut core = boot_core(alloc, image, run.conf)?;
     let log = new_log(alloc, run.conf, task.shown)?;
     let made = make_scheduled(alloc, &mut core, &run.events, log, task.traps)?;
     let done = finish_run(alloc, &core, made, image, task.shown)?;

@@ -11,8 +11,8 @@ ghost use Rattle.s161_base.specs.Sizes.{size_line_text};
 ghost use Rattle.s161_run.specs.Schedules.{IsScheduled, IsScheduledFault, schedule_files};
 
 use crate::behind::events_behind;
+use crate::booted::boot_core;
 use crate::inputs::{Inputs, read_inputs};
-use m161::Core;
 use m161_machine::{Conf, Event};
 use m161_steplog::{schedule_behind_size_line, write_schedule};
 use s161_base::fault::Fault;
@@ -43,7 +43,7 @@ pub fn schedule<'a, F: FileSource>(
 {
     let read = read_inputs(alloc, files, task.image, task.size, task.drive)?;
     let Inputs { file, keys, first } = read;
-    let mut core = Core::boot(alloc, &file, first.conf)?;
+    let mut core = boot_core(alloc, &file, first.conf)?;
     let events = events_behind(alloc, &mut core, &first.events, task.drive, &keys)?;
     let text = write_sized(alloc, first.conf, &events)?;
     Ok(text)

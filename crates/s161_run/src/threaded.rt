@@ -8,6 +8,7 @@ ghost use Rattle.s161_base.specs.Samples.{image_file};
 ghost use Rattle.s161_run.specs.Threads.{IsRunInThreads, IsThreadsFault, stop_of};
 ghost use Rattle.s161_run.specs.helpers.Threads.{FailsBooted, KeepsLast, RunsBooted};
 
+use crate::booted::boot_machine;
 use crate::events::{RunStop, stop_off};
 use crate::log::log_of_machine;
 use crate::made::traps_of_log;
@@ -57,7 +58,7 @@ pub fn run_in_threads<'a, R: Threads + Wait + Sync, F: FileSource>(
     let ThreadsTask { run, quota, burst } = task;
     let file = read_image(alloc, files, run.image)?;
     let image = file.as_slice();
-    let machine = Machine::boot(alloc, image, conf_asked(run.size))?;
+    let machine = boot_machine(alloc, image, conf_asked(run.size))?;
     let report = run_booted(rt, alloc, machine, quota, burst)?;
     let done = finish(alloc, report, image, run.shown, run.traps)?;
     Ok(done)

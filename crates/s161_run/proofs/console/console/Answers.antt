@@ -1,11 +1,9 @@
 use Rattle.std.proofs.Common.{◌≡◌, ap, subst, sym, inr, List, ℕ, IfSome}
 use Rattle.std.proofs.lemmas.Result.{err_from_is_err_and}
-use Rattle.m161_machine.specs.History.{boot_fault}
 use Rattle.m161_machine.specs.State.{State}
-use Rattle.s161_base.proofs.Failing.{state_booted}
 use Rattle.s161_base.proofs.Asking.{after_all, alone_unread, asks_err, boot_is_none}
 use Rattle.s161_base.specs.Asked.{image_files}
-use Rattle.s161_base.specs.Faults.{BootsIn, fault_of_boot}
+use Rattle.s161_base.specs.Faults.{BootsIn}
 use Rattle.s161_base.specs.Streams.{streams}
 use Rattle.s161_base.specs.Samples.{image_file}
 use Rattle.s161_run.specs.Consoles.{BootsFor}
@@ -14,7 +12,7 @@ use Rattle.s161_run.proofs.console.console.Goals as goal
 
 pub serve-requires-clause-silent : goal.serve-requires-clause-silent
 serve-requires-clause-silent g c =
-    let booted = state_booted c.deref.result.now c.conf_of.result (boot_fault c.deref.result.now c.conf_of.result) c.in_ok-core.core c.in_ok-core.ensures in
+    let booted = c.in_ok-core.ensures.ok in
     ap (λ (s : State). s.board.console.output) booted.1.state_is
 
 pub returns-in_err-driven-clause-fault : goal.returns-in_err-driven-clause-fault
@@ -27,8 +25,7 @@ returns-in_err-driven-clause-fault g c =
     let boots : BootsFor c.args.task known booted = record {
       file = file;
       is_file = subst R (sym c.deref.ensures.value) c.in_ok-file.ensures.whole;
-      boots = subst (λ conf. BootsIn file conf booted) c.conf_of.ensures
-          (state_booted file c.conf_of.result (boot_fault file c.conf_of.result) c.in_ok-core.core c.in_ok-core.ensures);
+      boots = subst (λ conf. BootsIn file conf booted) c.conf_of.ensures c.in_ok-core.ensures.ok;
     } in
     rw (made.1, made.2) (inr (booted, boots, c.in_err-driven.ensures.err))
 
@@ -43,8 +40,7 @@ returns-clause-ok g c =
       boots = record {
         file = file;
         is_file = subst R (sym c.deref.ensures.value) c.in_ok-file.ensures.whole;
-        boots = subst (λ conf. BootsIn file conf booted) c.conf_of.ensures
-            (state_booted file c.conf_of.result (boot_fault file c.conf_of.result) c.in_ok-core.core c.in_ok-core.ensures);
+        boots = subst (λ conf. BootsIn file conf booted) c.conf_of.ensures c.in_ok-core.ensures.ok;
       };
       driven = c.in_ok-driven.driven;
       state = c.serve.new.core.state;
@@ -64,8 +60,8 @@ pub returns-in_err-core-clause-asks : goal.returns-in_err-core-clause-asks
 returns-in_err-core-clause-asks g c =
     let asked = g.F.FileSource.asked in
     asks_err c.from_residual-in_err-core.result c.from_residual-in_err-core.ensures.1
-    (after_all (image_files c.args.task.image.now) (asked c.args.files.now) (asked c.read_image.new.files) (fault_of_boot c.in_err-core.field-0.0) c.in_ok-file.ensures.asks
-    (boot_is_none c.in_err-core.field-0.0))
+    (after_all (image_files c.args.task.image.now) (asked c.args.files.now) (asked c.read_image.new.files) c.in_err-core.field-0.0 c.in_ok-file.ensures.asks
+    (boot_is_none c.deref.result.now c.conf_of.result c.in_err-core.field-0.0 c.in_err-core.ensures.fault))
 
 pub returns-in_err-driven-clause-asks : goal.returns-in_err-driven-clause-asks
 returns-in_err-driven-clause-asks g c =

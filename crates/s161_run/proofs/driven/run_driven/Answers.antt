@@ -1,11 +1,10 @@
-use Rattle.std.proofs.Common.{◌∙◌, ap, string_bytes, subst, sym, Err}
+use Rattle.std.proofs.Common.{◌∙◌, ap, string_bytes, subst, sym}
 use Rattle.circular_buffer.specs.Buffer.{keep_last}
-use Rattle.m161_machine.specs.History.{BootsState, boot_fault, events_of}
+use Rattle.m161_machine.specs.History.{events_of}
 use Rattle.m161_machine.specs.State.{State}
 use Rattle.s161_base.proofs.Asking.{after_all, asks_err, boot_is_none, says_err}
-use Rattle.s161_base.proofs.Failing.{state_booted}
 use Rattle.s161_base.specs.declared.fault.Fault.TheVariants.{Memory}
-use Rattle.s161_base.specs.Faults.{BootsIn, fault_of_boot}
+use Rattle.s161_base.specs.Faults.{BootsIn, IsBootFault}
 use Rattle.s161_base.specs.Samples.{image_file}
 use Rattle.s161_run.specs.declared.events.RunStop.{RunStop}
 use Rattle.s161_run.specs.Behind.{GoesBehind}
@@ -32,7 +31,7 @@ returns-clause-ok g c =
     let shown = task.run.shown in
     let booted = c.in_ok-core.core.state in
     let boots : BootsIn file conf booted =
-    subst (λ bytes. BootsIn bytes conf booted) c.deref.ensures.value (state_booted c.deref.result.now conf (boot_fault c.deref.result.now conf) c.in_ok-core.core c.in_ok-core.ensures) in
+    subst (λ bytes. BootsIn bytes conf booted) c.deref.ensures.value c.in_ok-core.ensures.ok in
     let made = c.in_ok-made.ensures in
     let state = c.make_chosen.new.core.state in
     let stop = c.in_ok-made.made.stop in
@@ -70,15 +69,15 @@ returns-in_err-core-clause-fault g c =
     says_err (IsDrivenFault c.args.task files known) c.from_residual-in_err-core.result c.from_residual-in_err-core.ensures.1
     (order_unbooted c.args.task.run.image c.args.task.run.size c.args.task.drive files known read.file.items inputs.is_file read.keys.items read.first.events read.first.conf
     c.in_err-core.field-0.0 inputs
-    (subst (λ bytes. BootsState bytes read.first.conf (boot_fault bytes read.first.conf) (Err c.in_err-core.field-0.0)) c.deref.ensures.value c.in_err-core.ensures))
+    (subst (λ bytes. IsBootFault bytes read.first.conf c.in_err-core.field-0.0) c.deref.ensures.value c.in_err-core.ensures.fault))
 
 -- all files were asked for
 pub returns-in_err-core-clause-asks : goal.returns-in_err-core-clause-asks
 returns-in_err-core-clause-asks g c =
     let asked = g.F.FileSource.asked in
     asks_err c.from_residual-in_err-core.result c.from_residual-in_err-core.ensures.1
-    (after_all (driven_files c.args.task) (asked c.args.files.now) (asked c.read_inputs.new.files) (fault_of_boot c.in_err-core.field-0.0) c.in_ok-read.ensures.asks
-    (boot_is_none c.in_err-core.field-0.0))
+    (after_all (driven_files c.args.task) (asked c.args.files.now) (asked c.read_inputs.new.files) c.in_err-core.field-0.0 c.in_ok-read.ensures.asks
+    (boot_is_none c.deref.result.now c.in_ok-read.read.first.conf c.in_err-core.field-0.0 c.in_err-core.ensures.fault))
 
 pub returns-in_err-log-clause-asks : goal.returns-in_err-log-clause-asks
 returns-in_err-log-clause-asks g c =

@@ -1,15 +1,12 @@
 use Rattle.std.proofs.Common.{◌≡◌, List, ℕ, false, Option, None, Some, IfSome, rules, subst, sym, [], ◌∷◌, ◌++◌}
 use Rattle.std.proofs.lemmas.Result.{err_from_is_err_and}
-use Rattle.m161_machine.specs.declared.conf.BootError.TheVariants.{Load}
 use Rattle.m161_machine.specs.declared.event.Entry.{Entry}
 use Rattle.m161_machine.specs.Conf.{is_within_limits}
-use Rattle.m161_machine.specs.History.{boot_fault}
 use Rattle.s161_base.proofs.Asking.{IsNoFile, after_all, asks_both, asks_err, boot_is_none, file_unread, image_unread, later}
 use Rattle.s161_base.specs.Asked.{image_files}
-use Rattle.s161_base.specs.Faults.{fault_of_boot}
+use Rattle.s161_base.specs.Faults.{IsBootFault, IsUnloaded}
 use Rattle.s161_base.specs.Reading.{IsOfText}
-use Rattle.s161_base.proofs.Failing.{log_failed}
-use Rattle.s161_run.proofs.Failing.{verify_failed}
+use Rattle.s161_base.proofs.Failing.{boot_failed, log_failed}
 use Rattle.s161_base.proofs.Listing.{named_fault}
 use Rattle.s161_run.specs.Replays.{IsReplayFault, OfReplay}
 use Rattle.s161_base.specs.declared.fault.Fault.TheVariants.{LogImage, LogMachine, Memory}
@@ -96,10 +93,12 @@ returns-in_err-verdict-clause-fault g c =
     let conf = asked_conf c.args.task.size (Some (Logged logged)) in
     let none : machine_fault c.args.task.size file (Some (Logged logged)) ≡ None = search rules in
     let made = err_from_is_err_and c.from_residual-in_err-verdict.result c.from_residual-in_err-verdict.ensures.1 in
-    let failed = verify_failed (IsReplayFault c.args.task image text) conf file c.deref.result.now c.in_err-verdict.field-0.0
+    let is_fault : IsBootFault file conf c.in_err-verdict.field-0.0 =
+    subst (λ conf. IsBootFault file conf c.in_err-verdict.field-0.0) c.asked_conf-conf.ensures c.in_err-verdict.ensures.fault in
+    let failed = boot_failed (IsReplayFault c.args.task image text) file conf c.in_err-verdict.field-0.0
     (λ outside. replays (λ f l. (machine_fault c.args.task.size f (Some (Logged l)) ≡ None) × (is_within_limits (asked_conf c.args.task.size (Some (Logged l))) ≡ false)) (none, outside))
-    (λ e has. replays (λ f l. (machine_fault c.args.task.size f (Some (Logged l)) ≡ None) × (boot_fault f (asked_conf c.args.task.size (Some (Logged l))) ≡ Some (Load e))) (none, has))
-    tt (search rules) in
+    (λ why has. replays (λ f l. (machine_fault c.args.task.size f (Some (Logged l)) ≡ None) × IsUnloaded f (asked_conf c.args.task.size (Some (Logged l))) why) (none, has))
+    tt is_fault in
     rw (made.1, made.2) failed
 
 pub returns-in_err-file-clause-asks : goal.returns-in_err-file-clause-asks
@@ -138,7 +137,7 @@ returns-in_err-verdict-clause-asks g c =
     let a = asked c.args.files.now in
     let b = asked c.read_text.new.files in
     let all = asks_both image text a (asked c.read_image.new.files) b c.in_ok-file.ensures.asks c.in_ok-listed.ensures.asks in
-    asks_err c.from_residual-in_err-verdict.result c.from_residual-in_err-verdict.ensures.1 (after_all (image ++ text) a b (fault_of_boot c.in_err-verdict.field-0.0) all (boot_is_none c.in_err-verdict.field-0.0))
+    asks_err c.from_residual-in_err-verdict.result c.from_residual-in_err-verdict.ensures.1 (after_all (image ++ text) a b c.in_err-verdict.field-0.0 all (boot_is_none c.as_slice-image.result.now c.asked_conf-conf.result c.in_err-verdict.field-0.0 c.in_err-verdict.ensures.fault))
 
 pub returns-in_err-shown-clause-asks : goal.returns-in_err-shown-clause-asks
 returns-in_err-shown-clause-asks g c =

@@ -4,10 +4,9 @@ use Rattle.s161_base.proofs.Asking.{after_all, alone_unread, asks_err, before_in
 use Rattle.s161_base.specs.Asked.{IsBeforeInput, image_files}
 use Rattle.s161_base.specs.declared.fault.Fault.TheVariants.{Memory}
 use Rattle.circular_buffer.specs.Buffer.{keep_last}
-use Rattle.m161_machine.specs.History.{boot_fault, events_of}
+use Rattle.m161_machine.specs.History.{events_of}
 use Rattle.m161_machine.specs.State.{State}
-use Rattle.s161_base.specs.Faults.{BootsIn, fault_of_boot}
-use Rattle.s161_base.proofs.Failing.{state_booted}
+use Rattle.s161_base.specs.Faults.{BootsIn}
 use Rattle.s161_base.proofs.Listing.{unlisted_is_none}
 use Rattle.s161_run.proofs.Listing.{unbooted, unlisted}
 use Rattle.s161_base.specs.Known.{IsText}
@@ -32,7 +31,7 @@ returns-clause-ok g c =
     let conf = c.in_ok-run.run'.conf in
     let events = c.in_ok-run.run'.events in
     let booted = c.in_ok-core.core.state in
-    let boots : BootsIn file conf booted = state_booted file conf (boot_fault file conf) c.in_ok-core.core c.in_ok-core.ensures in
+    let boots : BootsIn file conf booted = c.in_ok-core.ensures.ok in
     let made = c.in_ok-made.ensures in
     let state = c.make_scheduled.new.core.state in
     let stop = c.in_ok-made.made.stop in
@@ -88,7 +87,7 @@ returns-in_err-core-clause-fault g c =
     (subst R (sym c.as_slice-image.ensures.value) c.in_ok-file.ensures.whole)
     (subst P (sym c.as_str.ensures.value) c.in_ok-schedule.ensures.whole)
     (subst IsText (sym c.as_str.ensures.value) c.in_ok-schedule.schedule.ok)
-    c.in_ok-run.run'.events c.in_ok-run.run'.conf c.in_err-core.field-0.0 c.in_ok-run.ensures.ok c.in_err-core.ensures)
+    c.in_ok-run.run'.events c.in_ok-run.run'.conf c.in_err-core.field-0.0 c.in_ok-run.ensures.ok c.in_err-core.ensures.fault)
 
 pub returns-in_err-file-clause-asks : goal.returns-in_err-file-clause-asks
 returns-in_err-file-clause-asks g c =
@@ -128,12 +127,12 @@ pub returns-in_err-core-clause-asks : goal.returns-in_err-core-clause-asks
 returns-in_err-core-clause-asks g c =
     let asked = g.F.FileSource.asked in
     asks_err c.from_residual-in_err-core.result c.from_residual-in_err-core.ensures.1
-    (after_all (image_files c.args.task.image.now) (asked c.args.files.now) (asked c.read_image.new.files) (fault_of_boot c.in_err-core.field-0.0) c.in_ok-file.ensures.asks
-    (boot_is_none c.in_err-core.field-0.0))
+    (after_all (image_files c.args.task.image.now) (asked c.args.files.now) (asked c.read_image.new.files) c.in_err-core.field-0.0 c.in_ok-file.ensures.asks
+    (boot_is_none c.as_slice-image.result.now c.in_ok-run.run'.conf c.in_err-core.field-0.0 c.in_err-core.ensures.fault))
 
 pub returns-in_err-core-clause-unread : goal.returns-in_err-core-clause-unread
 returns-in_err-core-clause-unread g c =
-    says_err (λ fault. IsBeforeInput fault (g.I.Read.remaining c.args.input.now) (g.I.Read.remaining c.read_input.new.input)) c.from_residual-in_err-core.result c.from_residual-in_err-core.ensures.1 (none_before (fault_of_boot c.in_err-core.field-0.0) (g.I.Read.remaining c.args.input.now) (g.I.Read.remaining c.read_input.new.input) (boot_is_none c.in_err-core.field-0.0))
+    says_err (λ fault. IsBeforeInput fault (g.I.Read.remaining c.args.input.now) (g.I.Read.remaining c.read_input.new.input)) c.from_residual-in_err-core.result c.from_residual-in_err-core.ensures.1 (none_before c.in_err-core.field-0.0 (g.I.Read.remaining c.args.input.now) (g.I.Read.remaining c.read_input.new.input) (boot_is_none c.as_slice-image.result.now c.in_ok-run.run'.conf c.in_err-core.field-0.0 c.in_err-core.ensures.fault))
 
 pub returns-in_err-log-clause-asks : goal.returns-in_err-log-clause-asks
 returns-in_err-log-clause-asks g c =

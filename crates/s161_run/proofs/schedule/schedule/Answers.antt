@@ -1,9 +1,7 @@
-use Rattle.std.proofs.Common.{subst, sym, Err}
-use Rattle.m161_machine.specs.History.{BootsState, boot_fault}
+use Rattle.std.proofs.Common.{subst, sym}
 use Rattle.s161_base.proofs.Asking.{after_all, asks_err, boot_is_none, says_err}
-use Rattle.s161_base.proofs.Failing.{state_booted}
 use Rattle.s161_base.specs.declared.fault.Fault.TheVariants.{Memory}
-use Rattle.s161_base.specs.Faults.{BootsIn, fault_of_boot}
+use Rattle.s161_base.specs.Faults.{BootsIn, IsBootFault}
 use Rattle.s161_base.specs.Samples.{image_file}
 use Rattle.s161_run.specs.Behind.{ChoseBehind}
 use Rattle.s161_run.specs.Driven.{rules_of}
@@ -29,8 +27,7 @@ returns-clause-ok g c =
       inputs = c.in_ok-read.ensures.ok;
       booted = booted;
       boots =
-          subst (λ bytes. BootsIn bytes conf booted) c.deref.ensures.value
-          (state_booted c.deref.result.now conf (boot_fault c.deref.result.now conf) c.in_ok-core.core c.in_ok-core.ensures);
+          subst (λ bytes. BootsIn bytes conf booted) c.deref.ensures.value c.in_ok-core.ensures.ok;
       events = c.deref-3.result.now;
       chose =
           subst (ChoseBehind (rules_of options keys) options.events booted first) (sym c.deref-3.ensures.value)
@@ -52,12 +49,12 @@ returns-in_err-core-clause-fault g c =
     let known = image_file files c.args.task.image.now in
     let read = c.in_ok-read.read in
     let inputs = c.in_ok-read.ensures.ok in
-    let fault = fault_of_boot c.in_err-core.field-0.0 in
+    let fault = c.in_err-core.field-0.0 in
     says_err (IsScheduledFault c.args.task files known) c.from_residual-in_err-core.result c.from_residual-in_err-core.ensures.1
     (order_scheduled c.args.task files known fault
     (order_unbooted c.args.task.image c.args.task.size c.args.task.drive files known read.file.items inputs.is_file read.keys.items read.first.events read.first.conf
     c.in_err-core.field-0.0 inputs
-    (subst (λ bytes. BootsState bytes read.first.conf (boot_fault bytes read.first.conf) (Err c.in_err-core.field-0.0)) c.deref.ensures.value c.in_err-core.ensures)))
+    (subst (λ bytes. IsBootFault bytes read.first.conf fault) c.deref.ensures.value c.in_err-core.ensures.fault)))
 
 pub returns-in_err-events-clause-fault : goal.returns-in_err-events-clause-fault
 returns-in_err-events-clause-fault g c =
@@ -67,7 +64,7 @@ returns-in_err-events-clause-fault g c =
     let conf = read.first.conf in
     let booted = c.in_ok-core.core.state in
     let boots : BootsIn read.file.items conf booted =
-    subst (λ bytes. BootsIn bytes conf booted) c.deref.ensures.value (state_booted c.deref.result.now conf (boot_fault c.deref.result.now conf) c.in_ok-core.core c.in_ok-core.ensures) in
+    subst (λ bytes. BootsIn bytes conf booted) c.deref.ensures.value c.in_ok-core.ensures.ok in
     says_err (IsScheduledFault c.args.task files known) c.from_residual-in_err-events.result c.from_residual-in_err-events.ensures.1
     (refused_scheduled c.args.task files known read.file.items read.keys.items read.first.events conf booted c.in_ok-read.ensures.ok boots c.in_err-events.field-0.0
     c.in_err-events.ensures.err)
@@ -77,8 +74,8 @@ pub returns-in_err-core-clause-asks : goal.returns-in_err-core-clause-asks
 returns-in_err-core-clause-asks g c =
     let asked = g.F.FileSource.asked in
     asks_err c.from_residual-in_err-core.result c.from_residual-in_err-core.ensures.1
-    (after_all (schedule_files c.args.task) (asked c.args.files.now) (asked c.read_inputs.new.files) (fault_of_boot c.in_err-core.field-0.0) c.in_ok-read.ensures.asks
-    (boot_is_none c.in_err-core.field-0.0))
+    (after_all (schedule_files c.args.task) (asked c.args.files.now) (asked c.read_inputs.new.files) c.in_err-core.field-0.0 c.in_ok-read.ensures.asks
+    (boot_is_none c.deref.result.now c.in_ok-read.read.first.conf c.in_err-core.field-0.0 c.in_err-core.ensures.fault))
 
 pub returns-in_err-events-clause-asks : goal.returns-in_err-events-clause-asks
 returns-in_err-events-clause-asks g c =

@@ -5,7 +5,7 @@ use Rattle.m161_machine.specs.History.{Start, boot_fault, events_of}
 use Rattle.m161_threads.specs.Runs.{Interleaves, bad_call}
 use Rattle.s161_base.proofs.Asking.{IsNoFile, after_all, alone_unread, asks_err, boot_is_none, memory_is_none}
 use Rattle.s161_base.specs.Asked.{image_files}
-use Rattle.s161_base.specs.Faults.{BootsTo, fault_of_boot}
+use Rattle.s161_base.specs.Faults.{BootsTo}
 use Rattle.s161_base.specs.Samples.{image_file}
 use Rattle.s161_base.specs.Machines.{conf_asked}
 use Rattle.s161_run.specs.declared.events.RunStop.{RunStop}
@@ -22,7 +22,7 @@ returns-clause-ok g c =
     let conf = (conf_asked c.args.task.run.size) in
     let file = c.as_slice-image.result.now in
     let booted = c.in_ok-machine.machine in
-    let boots = subst (λ conf. BootsTo file conf booted) c.conf_asked.ensures c.in_ok-machine.ensures.answer in
+    let boots = subst (λ conf. BootsTo file conf booted) c.conf_asked.ensures c.in_ok-machine.ensures.ok in
     let is_booted = booted_ok file conf (boot_fault file conf) booted boots in
     let number : number_of booted ≡ conf.processors = ap (λ (x : Conf). x.processors) is_booted.conf_is in
     let report = c.in_ok-report.report in
@@ -60,7 +60,7 @@ returns-in_err-report-clause-fault g c =
     let file = c.as_slice-image.result.now in
     let booted = c.in_ok-machine.machine in
     let failed = err_from_is_err_and c.from_residual-in_err-report.result c.from_residual-in_err-report.ensures.1 in
-    let boots = subst (λ conf. BootsTo file conf booted) c.conf_asked.ensures c.in_ok-machine.ensures.answer in
+    let boots = subst (λ conf. BootsTo file conf booted) c.conf_asked.ensures c.in_ok-machine.ensures.ok in
     let is_booted = booted_ok file conf (boot_fault file conf) booted boots in
     let clear : boot_fault file conf ≡ None = booted_clear file conf (boot_fault file conf) booted boots in
     rw (failed.1, failed.2)
@@ -79,8 +79,8 @@ pub returns-in_err-machine-clause-asks : goal.returns-in_err-machine-clause-asks
 returns-in_err-machine-clause-asks g c =
     let asked = g.F.FileSource.asked in
     asks_err c.from_residual-in_err-machine.result c.from_residual-in_err-machine.ensures.1
-    (after_all (image_files c.args.task.run.image.now) (asked c.args.files.now) (asked c.read_image.new.files) (fault_of_boot c.in_err-machine.field-0.0) c.in_ok-file.ensures.asks
-    (boot_is_none c.in_err-machine.field-0.0))
+    (after_all (image_files c.args.task.run.image.now) (asked c.args.files.now) (asked c.read_image.new.files) c.in_err-machine.field-0.0 c.in_ok-file.ensures.asks
+    (boot_is_none c.as_slice-image.result.now c.conf_asked.result c.in_err-machine.field-0.0 c.in_err-machine.ensures.fault))
 
 pub returns-in_err-report-clause-asks : goal.returns-in_err-report-clause-asks
 returns-in_err-report-clause-asks g c =
