@@ -21,3 +21,4 @@ pub mod schedule;
 mod serving;
 pub mod summary;
 pub mod threaded;
+mod unhandled;
