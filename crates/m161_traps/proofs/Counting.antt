@@ -154,11 +154,11 @@ one_more s t e o h = let all = counted (entry e o ∷ []) s t (t, h, refl) in om
 
 -- going along a list of events
 
-state_append : (s : State) (xs ys : List Event) → state_after s (xs ++ ys) ≡ state_after (state_after s xs) ys
+pub state_append : (s : State) (xs ys : List Event) → state_after s (xs ++ ys) ≡ state_after (state_after s xs) ys
 state_append s [] ys = refl
 state_append s (x ∷ xs) ys = state_append (state_behind s (next s x)) xs ys
 
-traps_append : (s : State) (xs ys : List Event) → traps_of s (xs ++ ys) ≡ traps_of s xs ++ traps_of (state_after s xs) ys
+pub traps_append : (s : State) (xs ys : List Event) → traps_of s (xs ++ ys) ≡ traps_of s xs ++ traps_of (state_after s xs) ys
 traps_append s [] ys = refl
 traps_append s (x ∷ xs) ys =
     let t = state_behind s (next s x) in

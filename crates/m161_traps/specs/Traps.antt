@@ -1,13 +1,14 @@
-use Rattle.std.specs.Prelude.{ℕ, ◌+◌, Bool, not, ◌==◌, ◌&&◌, List, [], ◌∷◌, ◌++◌, Option, None, Some, Result, Ok, Err, count_by, filter, option_to_list}
+use Rattle.std.specs.Prelude.{ℕ, ◌+◌, Bool, false, not, ◌==◌, ◌&&◌, List, [], ◌∷◌, ◌++◌, Option, None, Some, Result, Ok, Err, count_by, filter, option_to_list}
+use Rattle.std.specs.Option.{option_map_or}
 use Rattle.m161_cop0.specs.declared.exception.Exception.{Exception}
 use Rattle.m161_cop0.specs.Registers.{number_of_exception}
+use Rattle.m161_isa.specs.Address.{unmapped}
 use Rattle.m161_cpu.specs.declared.processor.Outcome.{Outcome}
 use Rattle.m161_cpu.specs.declared.processor.Outcome.TheVariants.{Ran, Trapped, Idle, PoweredOff, Conflict, Taken}
-use Rattle.m161_cpu.specs.Processor.{Processor}
 use Rattle.m161_machine.specs.declared.event.Event.{Event}
 use Rattle.m161_machine.specs.declared.event.Event.TheVariants.{Step, Key, Done}
 use Rattle.m161_machine.specs.declared.event.Refusal.{Refusal}
-use Rattle.m161_machine.specs.State.{State, next, processor_at}
+use Rattle.m161_machine.specs.State.{State, next, processor_at, word_in}
 use Rattle.m161_traps.specs.declared.traps.Trap.{Trap}
 use Rattle.m161_traps.specs.declared.traps.TrapLine.{TrapLine}
 
@@ -24,20 +25,28 @@ abbrev pub state_after : State → List Event → State
 state_after s [] = s
 state_after s (e ∷ es) = state_after (state_behind s (next s e)) es
 
--- a trap with this number, of processor p, which is this one right after it
-abbrev pub trap_at : ℕ → ℕ → Exception → Processor → Trap
-trap_at place p code after = record {
+-- the word at an address in kseg0 or kseg1 is in RAM, and 0
+abbrev pub is_empty_at : State → ℕ → Bool
+is_empty_at s address =
+    option_map_or (λ at. option_map_or (λ word. word == 0) (word_in s.memory at) false)
+    (unmapped address) false
+
+-- a trap with this number, of processor p, to this vector, where this is the state right after it
+abbrev pub trap_at : ℕ → ℕ → Exception → ℕ → State → Trap
+trap_at place p code vector after = record {
   place = place;
   processor = p;
   code = code;
-  epc = after.control.epc;
-  address = after.control.bad_vaddr;
+  vector = vector;
+  empty = is_empty_at after vector;
+  epc = (processor_at p after.processors).control.epc;
+  address = (processor_at p after.processors).control.bad_vaddr;
 }
 
 -- the trap of a Step with this outcome, if it is one
-abbrev pub trap_if : ℕ → ℕ → Outcome → Processor → Option Trap
+abbrev pub trap_if : ℕ → ℕ → Outcome → State → Option Trap
 trap_if place p Ran after = None
-trap_if place p (Trapped code vector) after = Some (trap_at place p code after)
+trap_if place p (Trapped code vector) after = Some (trap_at place p code vector after)
 trap_if place p Idle after = None
 trap_if place p PoweredOff after = None
 trap_if place p (Conflict row other) after = None
@@ -45,7 +54,7 @@ trap_if place p Taken after = None
 
 -- the trap of an event, if it is one: its number is how many events were accepted before it
 abbrev pub trap_of : State → Event → Result (Outcome × State) Refusal → Option Trap
-trap_of s (Step p) (Ok given) = trap_if s.made p given.0 (processor_at p given.1.processors)
+trap_of s (Step p) (Ok given) = trap_if s.made p given.0 given.1
 trap_of s (Step p) (Err why) = None
 trap_of s (Key byte) result = None
 trap_of s Done result = None

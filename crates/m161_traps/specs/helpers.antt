@@ -1,2 +1,3 @@
 -- Definitions that only contracts of private functions, or proofs, use.
 pub mod Counting
+pub mod Watching

@@ -4,12 +4,13 @@ ghost use Rattle.std.specs.Prelude.{◌≡◌, ◌<◌, ◌≤◌, ◌+◌, ◌^
 ghost use Rattle.std.specs.List.{All};
 ghost use Rattle.m161_machine.specs.State.{next, processor_at};
 ghost use Rattle.m161_machine.specs.declared.event.Event.TheVariants as events;
-ghost use Rattle.m161_traps.specs.Traps.{is_like, state_after, state_behind, trap_at, trap_if, trap_lines, trap_of};
+ghost use Rattle.m161_traps.specs.Traps.{is_empty_at, is_like, state_after, state_behind, trap_at, trap_if, trap_lines, trap_of};
 ghost use Rattle.m161_traps.specs.helpers.Counting.{AreTold, Passes, noted, place_of};
 
 use m161_bus::Console;
 use m161_cop0::{Exception, Register};
 use m161_cpu::Outcome;
+use m161_isa::unmapped;
 use m161_machine::{Core, Event, Refusal};
 use m161_tlb::Tlb;
 use std::alloc::{AllocError, Global};
@@ -24,6 +25,10 @@ pub struct Trap {
     pub processor: u32,
     /// Why it trapped.
     pub code: Exception,
+    /// Its vector: the address at which the processor goes on.
+    pub vector: u32,
+    /// Whether the word at the vector is in RAM, and 0, right after it.
+    pub empty: bool,
     /// EPC right after it.
     pub epc: u32,
     /// BadVAddr right after it; of a code that doesn't write it, what was there before.
@@ -95,15 +100,36 @@ fn bad_address_of<T: Tlb, D: Console>(core: &Core<T, D>, p: u32) -> u32
     core.cop(p, Register::BadVaddr)
 }
 
-// The trap of a processor with this code, in the state right after it.
-fn trap_at<T: Tlb, D: Console>(core: &Core<T, D>, place: u64, p: u32, code: Exception) -> Trap
+// Whether the word at an address in kseg0 or kseg1 is in RAM, and 0.
+fn is_empty_at<T: Tlb, D: Console>(core: &Core<T, D>, address: u32) -> bool
+    ensures { result ≡ is_empty_at core.now.state address }
+{
+    match unmapped(address) {
+        Some(at) => match core.word(at) {
+            Some(word) => word == 0,
+            None => false,
+        },
+        None => false,
+    }
+}
+
+// The trap of a processor with this code, to this vector, in the state right after it.
+fn trap_at<T: Tlb, D: Console>(
+    core: &Core<T, D>,
+    place: u64,
+    p: u32,
+    code: Exception,
+    vector: u32,
+) -> Trap
     requires { p < length core.now.state.processors }
-    ensures { result ≡ trap_at place p code (processor_at p core.now.state.processors) }
+    ensures { result ≡ trap_at place p code vector core.now.state }
 {
     Trap {
         place,
         processor: p,
         code,
+        vector,
+        empty: is_empty_at(core, vector),
         epc: epc_of(core, p),
         address: bad_address_of(core, p),
     }
@@ -117,17 +143,17 @@ fn trap_if<T: Tlb, D: Console>(
     outcome: Outcome,
 ) -> Option<Trap>
     requires { p < length core.now.state.processors }
-    ensures { result ≡ trap_if place p outcome (processor_at p core.now.state.processors) }
+    ensures { result ≡ trap_if place p outcome core.now.state }
 {
     match outcome {
-        Outcome::Trapped { code, vector: _ } => Some(trap_at(core, place, p, code)),
+        Outcome::Trapped { code, vector } => Some(trap_at(core, place, p, code, vector)),
         _ => None,
     }
 }
 
 // Makes a Step of a processor. Returns its trap, if it is one.
 #[tactic(auto, unfolding(m161_machine::specs::State::next))]
-fn make_step<T: Tlb, D: Console>(core: &mut Core<T, D>, p: u32) -> Option<Trap>
+pub(crate) fn make_step<T: Tlb, D: Console>(core: &mut Core<T, D>, p: u32) -> Option<Trap>
     ensures trap { result ≡ trap_of core.old.state (events.Step p)
         (next core.old.state (events.Step p)) }
     ensures state { core.new.state
@@ -147,7 +173,10 @@ fn make_step<T: Tlb, D: Console>(core: &mut Core<T, D>, p: u32) -> Option<Trap>
 }
 
 // Makes a typed byte, or the end of a transfer.
-fn make_input<T: Tlb, D: Console>(core: &mut Core<T, D>, event: Event) -> Result<(), AllocError>
+pub(crate) fn make_input<T: Tlb, D: Console>(
+    core: &mut Core<T, D>,
+    event: Event,
+) -> Result<(), AllocError>
     ensures state { OnOk result (core.new.state
         ≡ state_behind core.old.state (next core.old.state event)) }
     ensures more { OnOk result (core.old.state.made ≤ core.new.state.made) }

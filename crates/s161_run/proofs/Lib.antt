@@ -11,4 +11,5 @@ mod Choosing
 mod Running
 mod Scheduling
 mod Turning
+mod Unhandled
 pub mod Listing

@@ -160,7 +160,7 @@ making_none has s notes events = record {
 }
 
 -- a longer beginning
-first_more : (events rest : List Event) (made more : ℕ) → rest ≡ drop made events → take made events ++ take more rest ≡ take (made + more) events
+pub first_more : (events rest : List Event) (made more : ℕ) → rest ≡ drop made events → take made events ++ take more rest ≡ take (made + more) events
 first_more events rest made more is =
     ap (λ es. take made events ++ take more es) is
     ∙ ap (λ es. take made events ++ es) (sym (drop-take made more events))
@@ -182,7 +182,7 @@ refused_after events rest made k s refusal is h =
 
 -- the next events are the same one, this many times, and then others
 
-run_taken : (rest after : List Event) (e : Event) (n more : ℕ) → rest ≡ replicate n e ++ after → more ≤ n → take more rest ≡ replicate more e
+pub run_taken : (rest after : List Event) (e : Event) (n more : ℕ) → rest ≡ replicate n e ++ after → more ≤ n → take more rest ≡ replicate more e
 run_taken rest after e n more run le =
     let long : more ≤ length (replicate n e) = omega (arith, length-replicate n e, le) in
     ap (take more) run ∙ take-append-le more (replicate n e) after long ∙ take-replicate more n e le

@@ -13,7 +13,7 @@ use Rattle.s161_command.specs.declared.task.AskedSize.{AskedSize}
 use Rattle.s161_command.specs.declared.task.DrivenTask.{DrivenTask}
 use Rattle.s161_run.specs.declared.events.RunStop.{RunStop}
 use Rattle.s161_run.specs.Behind.{GoesBehind, told}
-use Rattle.s161_run.specs.Runs.{log_of_run, summary_text, told_traps}
+use Rattle.s161_run.specs.Runs.{log_of_run, notes_text, summary_text, told_traps}
 use Rattle.s161_base.specs.Asked.{image_files, option_files}
 use Rattle.s161_base.specs.declared.fault.Fault.{Fault}
 use Rattle.s161_base.specs.declared.fault.Fault.TheVariants.{Conf, File, Image, Log, LogImage, LogMachine, Memory, Schedule}
@@ -62,11 +62,11 @@ pub record AreInputs
 abbrev pub stop_of : Driven → State → RunStop
 stop_of driven s = told driven.made s.conflict driven.stop
 
--- a finished driven run: what it prints and why it stopped; the files have these bytes, and that of
+-- a finished driven run: what it prints, its notes, and why it stopped; the files have these bytes, and that of
 -- the image, as far as they are known
 pub record IsDriven
     (task : DrivenTask) (files : List ℕ → Option (List ℕ)) (known : Option (List ℕ))
-    (text : List ℕ) (stop : RunStop) : Type 0 where
+    (text notes : List ℕ) (stop : RunStop) : Type 0 where
   pub file : List ℕ
   pub keys : List ℕ
   pub first : List Event
@@ -82,6 +82,7 @@ pub record IsDriven
       text
       ≡ summary_text (told_traps task.run.traps booted (events_of entries))
       (log_of_run conf file entries) state stop task.run.shown
+  pub notes_are : notes ≡ notes_text file booted entries
 
 -- a fault is that of the file of the keys
 abbrev pub IsKeysFile : Option (Bor (List ℕ)) → Fault → Type 0

@@ -15,8 +15,10 @@ use Rattle.m161_machine.specs.State.{State, next, processor_at}
 use Rattle.m161_machine.specs.History.{Leads, Refuses, events_of}
 use Rattle.m161_display.specs.Shows.{show_regs_text}
 use Rattle.m161_text.specs.Lines.{with_line_end}
-use Rattle.m161_traps.specs.Shown.{traps_text}
+use Rattle.m161_elf.specs.Span.{spans}
+use Rattle.m161_traps.specs.Shown.{traps_text, trapping_text, unhandled_text}
 use Rattle.m161_traps.specs.Traps.{trap_lines}
+use Rattle.m161_traps.specs.Unhandled.{first_unhandled}
 use Rattle.m161_steplog.specs.declared.machine.MachineLine.{MachineLine}
 use Rattle.m161_steplog.specs.declared.mode.Mode.{Mode}
 use Rattle.m161_steplog.specs.Log.{log_text, tail_text}
@@ -156,6 +158,13 @@ told_text stop shown.SummaryAndLog = []
 told_text stop shown.Log = with_line_end (stop_line stop)
 told_text stop shown.Output = with_line_end (stop_line stop)
 
+-- the notes on the traps of a run from a boot of this file, with these entries: on the first for which
+-- the image has nothing, and on the processors whose last Steps all trapped
+abbrev pub notes_text : List ℕ → State → List Entry → List ℕ
+notes_text file booted entries =
+    unhandled_text (first_unhandled (spans file) booted (events_of entries))
+    ++ trapping_text entries
+
 abbrev pub status_of : RunStop → ℕ
 status_of Off = 0
 status_of (Refused k refusal) = 1
@@ -163,11 +172,11 @@ status_of End = 3
 status_of (ConflictStop conflict) = 4
 status_of Stuck = 5
 
--- a finished run: what it prints and why it stopped; the image's file and standard input have these
+-- a finished run: what it prints, its notes, and why it stopped; the image's file and standard input have these
 -- bytes, as far as they are known
 pub record IsRun
     (task : RunTask) (known : Option (List ℕ)) (input : Option (List ℕ))
-    (text : List ℕ) (stop : RunStop) : Type 0 where
+    (text notes : List ℕ) (stop : RunStop) : Type 0 where
   pub file : List ℕ
   pub is_file : IfSome known (λ bytes. file ≡ bytes)
   pub schedule : List ℕ
@@ -185,6 +194,7 @@ pub record IsRun
       text
       ≡ summary_text (told_traps task.traps booted (events_of entries))
       (log_of_run conf file entries) state stop task.shown
+  pub notes_are : notes ≡ notes_text file booted entries
 
 -- what a fault that ends a run says of its inputs: of a file, that it is the image's; of the
 -- schedule or the log, its first bad line; then, that it has none, and names another machine or another

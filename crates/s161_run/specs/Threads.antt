@@ -1,4 +1,4 @@
-use Rattle.std.specs.Prelude.{◌≡◌, ℕ, ◌*◌, ◌≤◌, Bool, false, if◌then◌else◌, List, Option, None, Some, IfSome, replicate}
+use Rattle.std.specs.Prelude.{◌≡◌, ℕ, ◌*◌, ◌≤◌, Bool, false, if◌then◌else◌, List, [], Option, None, Some, IfSome, replicate}
 use Rattle.m161_machine.specs.declared.event.Conflict.{Conflict}
 use Rattle.m161_machine.specs.Conf.{is_within_limits}
 use Rattle.m161_machine.specs.History.{History, boot_fault, events_of}
@@ -26,11 +26,11 @@ stop_of off conflict = if off then stop_off conflict else End
 abbrev pub threads_of : ThreadsTask → ℕ
 threads_of task = (conf_asked task.run.size).processors
 
--- a finished run in threads: what it prints and why it stopped; the image's file has these bytes,
+-- a finished run in threads: what it prints and why it stopped; it has no notes; the image's file has these bytes,
 -- as far as they are known. Its traps are those of the log, from the log's base on, which is the state
 -- at boot where the log has room for each Step
 pub record IsRunInThreads
-    (task : ThreadsTask) (known : Option (List ℕ)) (text : List ℕ) (stop : RunStop) : Type 0 where
+    (task : ThreadsTask) (known : Option (List ℕ)) (text notes : List ℕ) (stop : RunStop) : Type 0 where
   pub file : List ℕ
   pub is_file : IfSome known (λ bytes. file ≡ bytes)
   pub booted : History
@@ -48,6 +48,7 @@ pub record IsRunInThreads
       text ≡ summary_text (told_traps task.run.traps machine.base (events_of machine.log))
       (shown_log (conf_asked task.run.size) file machine.base.made machine.log) machine.state stop
       task.run.shown
+  pub has_none : notes ≡ []
 
 -- the cause of a run that doesn't begin for this reason; or of one that began
 abbrev pub IsCause : Option Cause → Cause → Type 0

@@ -5,3 +5,4 @@ pub mod Events
 pub mod Made
 pub mod Shown
 pub mod Threads
+pub mod Unhandled

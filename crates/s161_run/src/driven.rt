@@ -1,6 +1,6 @@
 //! Running an image by a policy.
 
-ghost use Rattle.std.specs.Prelude.{◌≡◌, IfErr, IfOk, None};
+ghost use Rattle.std.specs.Prelude.{◌≡◌, IfErr, IfOk, None, string_bytes};
 ghost use Rattle.m161_order.specs.Order.{order_fault};
 ghost use Rattle.s161_base.specs.Asked.{AsksFor};
 ghost use Rattle.s161_base.specs.Samples.{image_file};
@@ -12,6 +12,7 @@ use crate::inputs::{Inputs, read_inputs};
 use crate::log::new_log;
 use crate::made::make_chosen;
 use crate::summary::{Ran, finish_run};
+use crate::unhandled::unhandled_chosen;
 use m161::Core;
 use m161_drive::Driven;
 use s161_base::fault::Fault;
@@ -33,7 +34,7 @@ pub fn run_driven<'a, F: FileSource>(
 ) -> Result<Ran, Fault<'a>>
     requires { order_fault task.drive.order ≡ None }
     ensures ok { IfOk result (λ done. IsDriven task.entry (F.known files.old)
-        (image_file (F.known files.old) task.entry.run.image.now) done.text.items done.stop) }
+        (image_file (F.known files.old) task.entry.run.image.now) done.text.items (string_bytes done.notes) done.stop) }
     ensures fault { IfErr result (IsDrivenFault task.entry (F.known files.old)
         (image_file (F.known files.old) task.entry.run.image.now)) }
     ensures asks { AsksFor (driven_files task.entry) result (F.asked files.old)
@@ -53,7 +54,16 @@ pub fn run_driven<'a, F: FileSource>(
         log,
         task.run.traps,
     )?;
-    let done = finish_run(alloc, &core, made, &file, task.run.shown)?;
+    let unhandled = unhandled_chosen(
+        alloc,
+        &file,
+        &core,
+        events,
+        task.drive,
+        &keys,
+        &made.watch,
+    )?;
+    let done = finish_run(alloc, &core, made, &file, task.run.shown, unhandled)?;
     Ok(done)
 }
 

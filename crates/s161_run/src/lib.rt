@@ -22,3 +22,4 @@ pub mod schedule;
 mod serving;
 pub mod summary;
 pub mod threaded;
+mod unhandled;

@@ -1,4 +1,5 @@
-//! The events of a run, made with what is kept of them: its log, and its traps where they are counted.
+//! The events of a run, made with what is kept of them: its log, what is watched of its traps, and the
+//! lines of all where they are counted.
 
 ghost use Rattle.std.specs.Prelude.{◌≡◌, [], IfOk, None, string_bytes, true};
 ghost use Rattle.m161_machine.specs.History.{events_of};
@@ -14,7 +15,7 @@ use circular_buffer::HeapCircularBuffer;
 use m161::{Core, Machine};
 use m161_drive::Notes;
 use m161_machine::{Entry, Event, Events, PackedEntry};
-use m161_traps::{find_traps, show_traps};
+use m161_traps::{Watch, find_traps, show_traps};
 use s161_command::Drive;
 use std::alloc::{AllocError, Global};
 
@@ -27,12 +28,37 @@ pub(crate) struct Made {
     pub(crate) log: HeapCircularBuffer<PackedEntry>,
     /// The lines of the traps; empty where they aren't counted.
     pub(crate) traps: String,
+    /// What was watched of all entries.
+    pub(crate) watch: Watch,
 }
 
-// The last entries, and all events.
+// The last entries, and what is watched of all.
+#[derive(Drop)]
+struct Watched {
+    log: HeapCircularBuffer<PackedEntry>,
+    watch: Watch,
+}
+
+impl Notes for Watched {
+    ghost use Rattle.std.specs.Prelude.{◌≡◌};
+    ghost use Rattle.circular_buffer.specs.Buffer.{keep_last};
+    ghost use Rattle.m161_traps.specs.Watching.{IsWatched};
+
+    ghost has = { λ room kept so_far. (kept.log.capacity ≡ room) × (kept.log.items ≡ keep_last room so_far)
+        × IsWatched kept.watch so_far };
+
+    fn add(&mut self, entries: &[PackedEntry]) -> Result<(), AllocError> {
+        self.log.add(entries)?;
+        self.watch.add(entries)?;
+        Ok(())
+    }
+}
+
+// The last entries, what is watched of all, and all events.
 #[derive(Drop)]
 struct Kept {
     log: HeapCircularBuffer<PackedEntry>,
+    watch: Watch,
     events: Vec<Event>,
 }
 
@@ -40,12 +66,14 @@ impl Notes for Kept {
     ghost use Rattle.std.specs.Prelude.{◌≡◌};
     ghost use Rattle.circular_buffer.specs.Buffer.{keep_last};
     ghost use Rattle.m161_machine.specs.History.{events_of};
+    ghost use Rattle.m161_traps.specs.Watching.{IsWatched};
 
     ghost has = { λ room kept so_far. (kept.log.capacity ≡ room) × (kept.log.items ≡ keep_last room so_far)
-        × (kept.events.items ≡ events_of so_far) };
+        × IsWatched kept.watch so_far × (kept.events.items ≡ events_of so_far) };
 
     fn add(&mut self, entries: &[PackedEntry]) -> Result<(), AllocError> {
         self.log.add(entries)?;
+        self.watch.add(entries)?;
         self.events.add(entries)?;
         Ok(())
     }
@@ -85,17 +113,22 @@ pub(crate) fn make_scheduled(
 ) -> Result<Made, AllocError>
     requires { log.items ≡ [] }
     ensures { IfOk result (λ made. IsMade core.old.state events.now log.capacity traps core.new.state
-        made.stop made.log.items (string_bytes made.traps)) }
+        made.stop made.log.items (string_bytes made.traps) made.watch) }
 {
     if traps {
         return count_scheduled(alloc, core, events, log);
     }
-    let mut log = log;
-    let stop = make_events(core, events, &mut log)?;
+    let mut kept = Watched {
+        log,
+        watch: Watch::new(),
+    };
+    let stop = make_events(core, events, &mut kept)?;
+    let Watched { log, watch } = kept;
     Ok(Made {
         stop,
         log,
         traps: String::new(alloc),
+        watch,
     })
 }
 
@@ -108,17 +141,23 @@ fn count_scheduled(
 ) -> Result<Made, AllocError>
     requires { log.items ≡ [] }
     ensures { IfOk result (λ made. IsMade core.old.state events.now log.capacity true core.new.state
-        made.stop made.log.items (string_bytes made.traps)) }
+        made.stop made.log.items (string_bytes made.traps) made.watch) }
 {
     let mut first = core.copy(alloc)?;
     let mut kept = Kept {
         log,
+        watch: Watch::new(),
         events: Vec::new(alloc),
     };
     let stop = make_events(core, events, &mut kept)?;
-    let Kept { log, events } = kept;
+    let Kept { log, watch, events } = kept;
     let traps = lines_of(alloc, &mut first, &events)?;
-    Ok(Made { stop, log, traps })
+    Ok(Made {
+        stop,
+        log,
+        traps,
+        watch,
+    })
 }
 
 /// Makes the first events and then those that the options' policy chooses, and keeps and counts the same
@@ -138,17 +177,22 @@ pub(crate) fn make_chosen(
     requires order { order_fault options.order ≡ None }
     requires empty { log.items ≡ [] }
     ensures { IfOk result (λ made. IsDrivenMade options.entry keys.now core.old.state first.now
-        log.capacity traps core.new.state made.stop made.log.items (string_bytes made.traps)) }
+        log.capacity traps core.new.state made.stop made.log.items (string_bytes made.traps) made.watch) }
 {
     if traps {
         return count_chosen(alloc, core, first, options, keys, log);
     }
-    let mut log = log;
-    let stop = make_behind(core, first, options, options.events, keys, &mut log)?;
+    let mut kept = Watched {
+        log,
+        watch: Watch::new(),
+    };
+    let stop = make_behind(core, first, options, options.events, keys, &mut kept)?;
+    let Watched { log, watch } = kept;
     Ok(Made {
         stop,
         log,
         traps: String::new(alloc),
+        watch,
     })
 }
 
@@ -164,17 +208,23 @@ fn count_chosen(
     requires order { order_fault options.order ≡ None }
     requires empty { log.items ≡ [] }
     ensures { IfOk result (λ made. IsDrivenMade options.entry keys.now core.old.state first.now
-        log.capacity true core.new.state made.stop made.log.items (string_bytes made.traps)) }
+        log.capacity true core.new.state made.stop made.log.items (string_bytes made.traps) made.watch) }
 {
     let mut before = core.copy(alloc)?;
     let mut kept = Kept {
         log,
+        watch: Watch::new(),
         events: Vec::new(alloc),
     };
     let stop = make_behind(core, first, options, options.events, keys, &mut kept)?;
-    let Kept { log, events } = kept;
+    let Kept { log, watch, events } = kept;
     let traps = lines_of(alloc, &mut before, &events)?;
-    Ok(Made { stop, log, traps })
+    Ok(Made {
+        stop,
+        log,
+        traps,
+        watch,
+    })
 }
 
 /// The lines of the traps of a machine's log, made again from the log's base, where they are counted.

@@ -1,6 +1,6 @@
 //! Running an image under a schedule.
 
-ghost use Rattle.std.specs.Prelude.{IfErr, IfOk};
+ghost use Rattle.std.specs.Prelude.{IfErr, IfOk, string_bytes};
 ghost use Rattle.s161_run.specs.Runs.{IsFaultOf, IsRun};
 ghost use Rattle.s161_base.specs.Asked.{AsksFor, IsBeforeInput, image_files};
 ghost use Rattle.s161_base.specs.Samples.{image_file};
@@ -9,6 +9,7 @@ use crate::booted::boot_core;
 use crate::log::new_log;
 use crate::made::make_scheduled;
 use crate::summary::{Ran, finish_run};
+use crate::unhandled::unhandled_listed;
 use s161_base::fault::Fault;
 use s161_base::files::FileSource;
 use s161_base::input::read_input;
@@ -33,7 +34,7 @@ pub fn run<'a, F: FileSource, I: Read>(
 ) -> Result<Ran, Fault<'a>>
     ensures ok { IfOk result (λ done. IsRun task.entry
         (image_file (F.known files.old) task.entry.image.now) (I.remaining input.old)
-        done.text.items done.stop) }
+        done.text.items (string_bytes done.notes) done.stop) }
     ensures fault { IfErr result (IsFaultOf task.entry
         (image_file (F.known files.old) task.entry.image.now) (I.remaining input.old)) }
     ensures asks { AsksFor (image_files task.entry.image.now) result (F.asked files.old)
@@ -48,6 +49,7 @@ pub fn run<'a, F: FileSource, I: Read>(
     let mut core = boot_core(alloc, image, run.conf)?;
     let log = new_log(alloc, run.conf, task.shown)?;
     let made = make_scheduled(alloc, &mut core, &run.events, log, task.traps)?;
-    let done = finish_run(alloc, &core, made, image, task.shown)?;
+    let unhandled = unhandled_listed(alloc, image, &core, &run.events, &made.watch)?;
+    let done = finish_run(alloc, &core, made, image, task.shown, unhandled)?;
     Ok(done)
 }

@@ -1,9 +1,11 @@
 //! The text that `run` prints.
 
-ghost use Rattle.std.specs.Prelude.{◌≡◌, ◌++◌, ◌-◌, ◌<◌, length, string_bytes, IfOk, OnOk};
+ghost use Rattle.std.specs.Prelude.{◌≡◌, ◌++◌, ◌-◌, ◌<◌, List, length, string_bytes, IfOk, OnOk};
 ghost use Rattle.std.specs.List.{All};
 ghost use Rattle.m161_machine.specs.History.{FitsMode};
 ghost use Rattle.m161_machine.specs.declared.event.Entry.{Entry};
+ghost use Rattle.m161_traps.specs.Shown.{trapping_text, unhandled_text};
+ghost use Rattle.m161_traps.specs.Watching.{IsWatched};
 ghost use Rattle.s161_run.specs.Runs.{output_text, shown_log, started_text, status_of, summary_text, summary_with, told_text};
 
 use crate::events::RunStop;
@@ -12,6 +14,7 @@ use crate::made::Made;
 use m161::Core;
 use m161_display::show_regs;
 use m161_machine::ProcessorState;
+use m161_traps::{Trap, Watch, show_unhandled};
 use s161_command::Shown;
 use std::alloc::{AllocError, Global};
 
@@ -20,6 +23,8 @@ use std::alloc::{AllocError, Global};
 pub struct Ran {
     /// What it prints.
     pub text: Vec<u8>,
+    /// Its notes on traps, which are said on standard error behind all else.
+    pub notes: String,
     /// Why it stopped.
     pub stop: RunStop,
 }
@@ -59,8 +64,8 @@ pub fn told(alloc: Global, stop: RunStop, shown: Shown) -> Result<String, AllocE
     }
 }
 
-/// What is printed of a run from a boot of this file, with what is kept of its events, and why it
-/// stopped.
+/// What is printed of a run from a boot of this file, with what is kept of its events, why it stopped,
+/// and its notes, with the first trap for which the image has nothing.
 ///
 /// # Errors
 /// Memory was refused.
@@ -70,17 +75,38 @@ pub(crate) fn finish_run(
     made: Made,
     file: &[u8],
     shown: Shown,
+    unhandled: Option<Trap>,
 ) -> Result<Ran, AllocError>
     requires { All (λ (e : Entry). FitsMode core.now.state.conf.strict e.outcome) made.log.items }
     ensures text { IfOk result (λ done. done.text.items ≡ summary_text (string_bytes made.traps)
         (shown_log core.now.state.conf file.now (core.now.state.made - length made.log.items)
         made.log.items) core.now.state made.stop shown) }
+    ensures notes { IfOk result (λ done. (entries : List Entry) → IsWatched made.watch entries
+        → string_bytes done.notes ≡ unhandled_text unhandled ++ trapping_text entries) }
     ensures stop { IfOk result (λ done. done.stop ≡ made.stop) }
 {
-    let Made { stop, log, traps } = made;
+    let Made {
+        stop,
+        log,
+        traps,
+        watch,
+    } = made;
     let log = log_of_run(alloc, core, &log, file, shown)?;
     let text = summary(alloc, core, traps.as_bytes(), log.as_bytes(), stop, shown)?;
-    Ok(Ran { text, stop })
+    let notes = notes(alloc, unhandled, &watch)?;
+    Ok(Ran { text, notes, stop })
+}
+
+// The notes of a run on its traps: the first for which the image has nothing, and the processors that
+// trap again and again.
+fn notes(alloc: Global, unhandled: Option<Trap>, watch: &Watch) -> Result<String, AllocError>
+    ensures { IfOk result (λ notes. (entries : List Entry) → IsWatched watch.now entries
+        → string_bytes notes ≡ unhandled_text unhandled ++ trapping_text entries) }
+{
+    let mut notes = show_unhandled(alloc, unhandled)?;
+    let trapping = watch.show(alloc)?;
+    notes.push_str(trapping.as_str())?;
+    Ok(notes)
 }
 
 /// The exit status of a run.

@@ -1,6 +1,6 @@
 //! Running an image in threads.
 
-ghost use Rattle.std.specs.Prelude.{◌≡◌, IfErr, IfOk, replicate};
+ghost use Rattle.std.specs.Prelude.{◌≡◌, [], IfErr, IfOk, replicate, string_bytes};
 ghost use Rattle.m161_machine.specs.History.{events_of};
 ghost use Rattle.s161_run.specs.Runs.{shown_log, summary_text, told_traps};
 ghost use Rattle.s161_base.specs.Asked.{AsksFor, image_files};
@@ -49,7 +49,7 @@ pub fn run_in_threads<'a, R: Threads + Wait + Sync, F: FileSource>(
 ) -> Result<Ran, Fault<'a>>
     ensures ok { IfOk result (λ done. IsRunInThreads task.entry
         (image_file (F.known files.old) task.entry.run.image.now)
-        done.text.items done.stop) }
+        done.text.items (string_bytes done.notes) done.stop) }
     ensures fault { IfErr result (IsThreadsFault task.entry
         (image_file (F.known files.old) task.entry.run.image.now)) }
     ensures asks { AsksFor (image_files task.entry.run.image.now) result (F.asked files.old)
@@ -119,6 +119,7 @@ fn finish<'a>(
         (told_traps traps report.machine.base (events_of report.machine.log))
         (shown_log report.machine.start.conf file.now report.machine.base.made report.machine.log)
         report.machine.state (stop_of report.off report.machine.state.conflict) shown) }
+    ensures notes { IfOk result (λ done. string_bytes done.notes ≡ []) }
     ensures stop { IfOk result (λ done.
         done.stop ≡ stop_of report.off report.machine.state.conflict) }
     ensures err { IfErr result (λ fault. fault ≡ Fault.Memory) }
@@ -139,5 +140,9 @@ fn finish<'a>(
         stop,
         shown,
     )?;
-    Ok(Ran { text, stop })
+    Ok(Ran {
+        text,
+        notes: String::new(alloc),
+        stop,
+    })
 }

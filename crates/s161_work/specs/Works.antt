@@ -99,10 +99,11 @@ abbrev pub Silently : (List ℕ → ℕ → Type 0) → List ℕ → List ℕ �
 Silently IsResult text told status = (told ≡ []) × IsResult text status
 
 -- the same of a run: why it stopped is its exit status, and is said on standard error where what it
--- prints doesn't say it
-abbrev pub OfRun : Shown → (List ℕ → RunStop → Type 0) → List ℕ → List ℕ → ℕ → Type 0
+-- prints doesn't say it; behind that its notes are said
+abbrev pub OfRun : Shown → (List ℕ → List ℕ → RunStop → Type 0) → List ℕ → List ℕ → ℕ → Type 0
 OfRun shown IsRan text told status =
-    (stop : RunStop) × IsRan text stop × (told ≡ told_text stop shown) × (status ≡ status_of stop)
+    (stop : RunStop) × (notes : List ℕ) × IsRan text notes stop
+    × (told ≡ told_text stop shown ++ notes) × (status ≡ status_of stop)
 
 -- a finished task's text, what it says on standard error, and its exit status, over files and a standard
 -- input with these bytes, and with these words for the addresses of `--never`; a task that writes as it

@@ -1,6 +1,6 @@
 //! The tasks whose text is complete before it is written.
 
-ghost use Rattle.std.specs.Prelude.{◌≡◌, ◌≢◌, ◌≤◌, [], IfErr, IfOk, None, OnOk, map, string_bytes};
+ghost use Rattle.std.specs.Prelude.{◌≡◌, ◌≢◌, ◌≤◌, ◌++◌, [], IfErr, IfOk, None, OnOk, map, string_bytes};
 ghost use Rattle.m161_order.specs.Order.{order_fault};
 ghost use Rattle.s161_base.specs.Asked.{AsksFor, IsBeforeInput, image_files};
 ghost use Rattle.s161_base.specs.Samples.{image_file};
@@ -145,13 +145,16 @@ fn finish_run<'a>(
 ) -> Result<Finished, Fault<'a>>
     ensures text { IfOk result (λ done. done.text.items ≡ ran.text.items) }
     ensures status { IfOk result (λ done. done.status ≡ status_of ran.stop) }
-    ensures said { IfOk result (λ done. string_bytes said.new ≡ told_text ran.stop shown) }
+    ensures said { IfOk result (λ done. string_bytes said.new
+        ≡ told_text ran.stop shown ++ string_bytes ran.notes) }
     ensures err { IfErr result (λ fault. fault ≡ Fault.Memory) }
 {
-    *said = told(alloc, ran.stop, shown)?;
+    let Ran { text, notes, stop } = ran;
+    *said = told(alloc, stop, shown)?;
+    said.push_str(notes.as_str())?;
     Ok(Finished {
-        text: ran.text,
-        status: status(ran.stop),
+        text,
+        status: status(stop),
     })
 }
 
