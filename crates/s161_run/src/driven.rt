@@ -18,6 +18,7 @@ use m161_drive::Driven;
 use s161_base::fault::Fault;
 use s161_base::files::FileSource;
 use s161_command::DrivenTask;
+use s161_progress::{Progress, Unit};
 use std::alloc::Global;
 
 /// Reads the image, the text of the events that come first, and the keys; boots the image, and makes the
@@ -31,6 +32,7 @@ pub fn run_driven<'a, F: FileSource>(
     alloc: Global,
     files: &mut F,
     task: DrivenTask<'a>,
+    progress: &Progress,
 ) -> Result<Ran, Fault<'a>>
     requires { order_fault task.drive.order ≡ None }
     ensures ok { IfOk result (λ done. IsDriven task.entry (F.known files.old)
@@ -45,6 +47,8 @@ pub fn run_driven<'a, F: FileSource>(
     let mut core = boot_core(alloc, &file, first.conf)?;
     let log = new_log(alloc, first.conf, task.run.shown)?;
     let events = &first.events;
+    let most = task.drive.events.saturating_add(events.len() as u64);
+    progress.begin(Unit::Events, Some(most));
     let made = make_chosen(
         alloc,
         &mut core,
@@ -53,6 +57,7 @@ pub fn run_driven<'a, F: FileSource>(
         &keys,
         log,
         task.run.traps,
+        progress,
     )?;
     let unhandled = unhandled_chosen(
         alloc,

@@ -17,6 +17,7 @@ use m161_drive::Notes;
 use m161_machine::{Entry, Event, Events, PackedEntry};
 use m161_traps::{Watch, find_traps, show_traps};
 use s161_command::Drive;
+use s161_progress::Progress;
 use std::alloc::{AllocError, Global};
 
 /// Events that were made.
@@ -34,12 +35,13 @@ pub(crate) struct Made {
 
 // The last entries, and what is watched of all.
 #[derive(Drop)]
-struct Watched {
+struct Watched<'a> {
     log: HeapCircularBuffer<PackedEntry>,
     watch: Watch,
+    progress: &'a Progress,
 }
 
-impl Notes for Watched {
+impl<'a> Notes for Watched<'a> {
     ghost use Rattle.std.specs.Prelude.{◌≡◌};
     ghost use Rattle.circular_buffer.specs.Buffer.{keep_last};
     ghost use Rattle.m161_traps.specs.Watching.{IsWatched};
@@ -50,19 +52,21 @@ impl Notes for Watched {
     fn add(&mut self, entries: &[PackedEntry]) -> Result<(), AllocError> {
         self.log.add(entries)?;
         self.watch.add(entries)?;
+        self.progress.add(entries.len() as u64);
         Ok(())
     }
 }
 
 // The last entries, what is watched of all, and all events.
 #[derive(Drop)]
-struct Kept {
+struct Kept<'a> {
     log: HeapCircularBuffer<PackedEntry>,
     watch: Watch,
     events: Vec<Event>,
+    progress: &'a Progress,
 }
 
-impl Notes for Kept {
+impl<'a> Notes for Kept<'a> {
     ghost use Rattle.std.specs.Prelude.{◌≡◌};
     ghost use Rattle.circular_buffer.specs.Buffer.{keep_last};
     ghost use Rattle.m161_machine.specs.History.{events_of};
@@ -75,6 +79,7 @@ impl Notes for Kept {
         self.log.add(entries)?;
         self.watch.add(entries)?;
         self.events.add(entries)?;
+        self.progress.add(entries.len() as u64);
         Ok(())
     }
 }
@@ -110,20 +115,22 @@ pub(crate) fn make_scheduled(
     events: &Events,
     log: HeapCircularBuffer<PackedEntry>,
     traps: bool,
+    progress: &Progress,
 ) -> Result<Made, AllocError>
     requires { log.items ≡ [] }
     ensures { IfOk result (λ made. IsMade core.old.state events.now log.capacity traps core.new.state
         made.stop made.log.items (string_bytes made.traps) made.watch) }
 {
     if traps {
-        return count_scheduled(alloc, core, events, log);
+        return count_scheduled(alloc, core, events, log, progress);
     }
     let mut kept = Watched {
         log,
         watch: Watch::new(),
+        progress,
     };
     let stop = make_events(core, events, &mut kept)?;
-    let Watched { log, watch } = kept;
+    let Watched { log, watch, .. } = kept;
     Ok(Made {
         stop,
         log,
@@ -138,6 +145,7 @@ fn count_scheduled(
     core: &mut Core,
     events: &Events,
     log: HeapCircularBuffer<PackedEntry>,
+    progress: &Progress,
 ) -> Result<Made, AllocError>
     requires { log.items ≡ [] }
     ensures { IfOk result (λ made. IsMade core.old.state events.now log.capacity true core.new.state
@@ -148,9 +156,12 @@ fn count_scheduled(
         log,
         watch: Watch::new(),
         events: Vec::new(alloc),
+        progress,
     };
     let stop = make_events(core, events, &mut kept)?;
-    let Kept { log, watch, events } = kept;
+    let Kept {
+        log, watch, events, ..
+    } = kept;
     let traps = lines_of(alloc, &mut first, &events)?;
     Ok(Made {
         stop,
@@ -173,6 +184,7 @@ pub(crate) fn make_chosen(
     keys: &[u8],
     log: HeapCircularBuffer<PackedEntry>,
     traps: bool,
+    progress: &Progress,
 ) -> Result<Made, AllocError>
     requires order { order_fault options.order ≡ None }
     requires empty { log.items ≡ [] }
@@ -180,14 +192,15 @@ pub(crate) fn make_chosen(
         log.capacity traps core.new.state made.stop made.log.items (string_bytes made.traps) made.watch) }
 {
     if traps {
-        return count_chosen(alloc, core, first, options, keys, log);
+        return count_chosen(alloc, core, first, options, keys, log, progress);
     }
     let mut kept = Watched {
         log,
         watch: Watch::new(),
+        progress,
     };
     let stop = make_behind(core, first, options, options.events, keys, &mut kept)?;
-    let Watched { log, watch } = kept;
+    let Watched { log, watch, .. } = kept;
     Ok(Made {
         stop,
         log,
@@ -204,6 +217,7 @@ fn count_chosen(
     options: Drive<'_>,
     keys: &[u8],
     log: HeapCircularBuffer<PackedEntry>,
+    progress: &Progress,
 ) -> Result<Made, AllocError>
     requires order { order_fault options.order ≡ None }
     requires empty { log.items ≡ [] }
@@ -215,9 +229,12 @@ fn count_chosen(
         log,
         watch: Watch::new(),
         events: Vec::new(alloc),
+        progress,
     };
     let stop = make_behind(core, first, options, options.events, keys, &mut kept)?;
-    let Kept { log, watch, events } = kept;
+    let Kept {
+        log, watch, events, ..
+    } = kept;
     let traps = lines_of(alloc, &mut before, &events)?;
     Ok(Made {
         stop,

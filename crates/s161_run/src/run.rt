@@ -16,6 +16,7 @@ use s161_base::input::read_input;
 use s161_base::listed::plan_run;
 use s161_base::sample::read_image;
 use s161_command::RunTask;
+use s161_progress::{Progress, Unit};
 use std::alloc::Global;
 use std::io::Read;
 
@@ -31,6 +32,7 @@ pub fn run<'a, F: FileSource, I: Read>(
     files: &mut F,
     input: &mut I,
     task: RunTask<'a>,
+    progress: &Progress,
 ) -> Result<Ran, Fault<'a>>
     ensures ok { IfOk result (λ done. IsRun task.entry
         (image_file (F.known files.old) task.entry.image.now) (I.remaining input.old)
@@ -48,7 +50,8 @@ pub fn run<'a, F: FileSource, I: Read>(
     let run = plan_run(alloc, task.size, image, schedule.as_str())?;
     let mut core = boot_core(alloc, image, run.conf)?;
     let log = new_log(alloc, run.conf, task.shown)?;
-    let made = make_scheduled(alloc, &mut core, &run.events, log, task.traps)?;
+    progress.begin(Unit::Events, Some(run.events.len() as u64));
+    let made = make_scheduled(alloc, &mut core, &run.events, log, task.traps, progress)?;
     let unhandled = unhandled_listed(alloc, image, &core, &run.events, &made.watch)?;
     let done = finish_run(alloc, &core, made, image, task.shown, unhandled)?;
     Ok(done)

@@ -122,9 +122,9 @@ fn finish<'a, R: Threads + Wait + Sync, F: FileSource, I: Read>(
 {
     match task {
         Task::Demo => finish_demo(alloc),
-        Task::Run(task) => finish_scheduled(alloc, files, input, task, said),
+        Task::Run(task) => finish_scheduled(alloc, files, input, task, progress, said),
         Task::RunInThreads(task) => finish_threads(rt, alloc, files, task, said),
-        Task::RunDriven(task) => finish_driven(alloc, files, task, said),
+        Task::RunDriven(task) => finish_driven(alloc, files, task, progress, said),
         Task::Schedule(task) => finish_schedule(alloc, files, task),
         Task::Console(_) | Task::Trace(_) | Task::Debug(_) | Task::Gdb(_) => unreachable!(),
         Task::Search(task) => search(rt, alloc, files, task, never, progress, said),
@@ -164,6 +164,7 @@ fn finish_scheduled<'a, F: FileSource, I: Read>(
     files: &mut F,
     input: &mut I,
     task: RunTask<'a>,
+    progress: &Progress,
     said: &mut String,
 ) -> Result<Finished, Fault<'a>>
     ensures ok { IfOk result (λ done. OfRun task.entry.shown (IsRun task.entry
@@ -176,7 +177,7 @@ fn finish_scheduled<'a, F: FileSource, I: Read>(
     ensures unread { IfErr result (λ fault. IsBeforeInput fault (I.remaining input.old)
         (I.remaining input.new)) }
 {
-    let ran = run(alloc, files, input, task)?;
+    let ran = run(alloc, files, input, task, progress)?;
     finish_run(alloc, ran, task.shown, said)
 }
 
@@ -205,6 +206,7 @@ fn finish_driven<'a, F: FileSource>(
     alloc: Global,
     files: &mut F,
     task: DrivenTask<'a>,
+    progress: &Progress,
     said: &mut String,
 ) -> Result<Finished, Fault<'a>>
     requires { order_fault task.drive.order ≡ None }
@@ -216,7 +218,7 @@ fn finish_driven<'a, F: FileSource>(
     ensures asks { AsksFor (driven_files task.entry) result (F.asked files.old)
         (F.asked files.new) }
 {
-    let ran = run_driven(alloc, files, task)?;
+    let ran = run_driven(alloc, files, task, progress)?;
     finish_run(alloc, ran, task.run.shown, said)
 }
 
