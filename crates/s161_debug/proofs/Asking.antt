@@ -3,26 +3,22 @@ use Rattle.std.specs.declared.alloc.AllocError.{AllocError}
 use Rattle.std.specs.Prelude.{IfErr}
 use Rattle.std.proofs.lemmas.Result.{IfErr-weaker}
 use Rattle.m161_debug.specs.Breakpoints.{SessionState}
-use Rattle.m161_machine.specs.declared.conf.Conf.{Conf}
 use Rattle.m161_machine.specs.declared.event.Event.{Event}
 use Rattle.m161_server.specs.declared.fault.Fault.{Fault as ServerFault}
 use Rattle.m161_server.specs.declared.fault.Fault.TheVariants as server
-use Rattle.s161_base.proofs.Asking.{IsNoFile, none_by, result_asks}
+use Rattle.s161_base.proofs.Asking.{IsNoFile, boot_is_none, none_by, result_asks}
 use Rattle.s161_base.specs.Asked.{Asks, AsksFor}
 use Rattle.s161_base.specs.Streams.{Streams}
 use Rattle.s161_base.specs.declared.fault.Fault.{Fault}
 use Rattle.s161_command.specs.declared.task.AskedSize.{AskedSize}
 use Rattle.s161_run.proofs.Keeping.{first_is_none}
-use Rattle.s161_debug.specs.Debugs.{IsBootFault, IsUnbooted}
+use Rattle.s161_debug.specs.Debugs.{IsUnbooted}
 use Rattle.s161_debug.specs.Gdb.{told_as}
 use Rattle.s161_debug.specs.Sessions.{Breaks, IsBehind}
 
 -- The faults that are none of a file: behind it all files were asked for.
 
 -- of the boot
-boot_is_none : (file : List ℕ) (conf : Conf) (fault : Fault) → IsBootFault file conf fault → IsNoFile fault
-boot_is_none file conf fault h = none_by (IsBootFault file conf) (λ name why bad. bad) fault h
-
 pub unbooted_is_none : (size : AskedSize) (file : List ℕ) (text : Option (List ℕ)) (fault : Fault) → IsUnbooted size file text fault → IsNoFile fault
 unbooted_is_none size file text fault (inl h) = first_is_none size file text fault h
 unbooted_is_none size file text fault (inr h) = boot_is_none file h.1 fault h.3

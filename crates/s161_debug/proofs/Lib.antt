@@ -1,5 +1,4 @@
 pub mod Asking
-mod Faults
 mod Going
 mod Jumping
 mod Lasting

@@ -1,10 +1,8 @@
 use Rattle.std.proofs.Common.{Bor}
-use Rattle.std.specs.Prelude.{◌≡◌, ◌⊎◌, ℕ, false, List, [], ◌∷◌, ◌++◌, Option, Some, IfSome}
-use Rattle.m161_machine.specs.declared.conf.BootError.TheVariants.{Load}
+use Rattle.std.specs.Prelude.{◌≡◌, ◌⊎◌, ℕ, List, [], ◌∷◌, ◌++◌, Option, Some, IfSome}
 use Rattle.m161_machine.specs.declared.conf.Conf.{Conf as MachineConf}
 use Rattle.m161_machine.specs.declared.event.Event.{Event}
-use Rattle.m161_machine.specs.Conf.{is_within_limits}
-use Rattle.m161_machine.specs.History.{History, boot_fault}
+use Rattle.m161_machine.specs.History.{History}
 use Rattle.m161_machine.specs.State.{State}
 use Rattle.m161_dis.specs.declared.naming.Style.{Style}
 use Rattle.s161_command.specs.declared.task.AskedSize.{AskedSize}
@@ -13,8 +11,8 @@ use Rattle.s161_command.specs.declared.task.Source.{Source}
 use Rattle.s161_command.specs.declared.task.Source.TheVariants as source
 use Rattle.s161_base.specs.Asked.{image_files, option_files}
 use Rattle.s161_base.specs.declared.fault.Fault.{Fault}
-use Rattle.s161_base.specs.declared.fault.Fault.TheVariants.{Conf, Image, Memory}
-use Rattle.s161_base.specs.Faults.{BootsTo}
+use Rattle.s161_base.specs.declared.fault.Fault.TheVariants.{Memory}
+use Rattle.s161_base.specs.Faults.{BootsTo, IsBootFault}
 use Rattle.s161_base.specs.Known.{OfKnown, OfText}
 use Rattle.s161_base.specs.Listed.{IsTextOf, ListsFirst, ListsNoFirst}
 use Rattle.s161_base.specs.Naming.{style_of}
@@ -76,13 +74,6 @@ pub record IsDebug
   pub style : Style
   pub opens : Opens task files image booted events style
   pub ends : Ends (session_of booted style) events x errors told
-
--- why a file isn't booted in a machine, unless memory was refused
-abbrev pub IsBootFault : List ℕ → MachineConf → Fault → Type 0
-IsBootFault file conf Conf = is_within_limits conf ≡ false
-IsBootFault file conf (Image e) = boot_fault file conf ≡ Some (Load e)
-IsBootFault file conf Memory = Unit {0}
-IsBootFault file conf _ = ⊥
 
 -- why an image's file isn't booted in the machine of a text's events, if there is a text: it lists none,
 -- or is a log of another machine or image; or else it is no image of that machine

@@ -11,12 +11,12 @@ ghost use Rattle.s161_base.specs.Samples.{image_file};
 ghost use Rattle.s161_command.specs.declared.task.Source.TheVariants as sources;
 ghost use Rattle.s161_run.specs.Behind.{TakesBehind};
 ghost use Rattle.s161_run.specs.Driven.{rules_of};
-ghost use Rattle.s161_debug.specs.Debugs.{debug_files, source_files, IsBootFault, IsEarlyFault, IsOpened, IsSourceFault, IsUnbooted, IsUnopened, Opens};
+ghost use Rattle.s161_debug.specs.Debugs.{debug_files, source_files, IsEarlyFault, IsOpened, IsSourceFault, IsUnbooted, IsUnopened, Opens};
 ghost use Rattle.s161_debug.specs.Gdb.{gdb_files, OpensRun};
 
 use m161::Machine;
 use m161_dis::Style;
-use m161_machine::{Conf, Event, Events};
+use m161_machine::{Event, Events};
 use s161_base::fault::Fault;
 use s161_base::files::FileSource;
 use s161_base::input::{read_text, read_text_if};
@@ -25,6 +25,7 @@ use s161_base::naming::style_of;
 use s161_base::sample::read_image;
 use s161_command::{AskedSize, DebugTask, Drive, GdbTask, Source};
 use s161_run::behind::session_behind;
+use s161_run::booted::boot_machine;
 use s161_run::policy::read_keys;
 use std::alloc::Global;
 
@@ -188,7 +189,7 @@ fn boot_for<'a>(
     ensures fault { IfErr result (IsUnbooted size image.now (option_map (λ t. t.now) text.entry)) }
 {
     let planned = plan_first(alloc, size, image, text)?;
-    let machine = boot(alloc, image, planned.conf)?;
+    let machine = boot_machine(alloc, image, planned.conf)?;
     Ok(Booted {
         machine,
         events: planned.events,
@@ -214,13 +215,4 @@ fn choose<'a>(
         machine: booted.machine,
         events,
     })
-}
-
-// Boots an image.
-fn boot<'a>(alloc: Global, image: &[u8], conf: Conf) -> Result<Machine, Fault<'a>>
-    ensures ok { IfOk result (BootsTo image.now conf) }
-    ensures fault { IfErr result (IsBootFault image.now conf) }
-{
-    let machine = Machine::boot(alloc, image, conf)?;
-    Ok(machine)
 }

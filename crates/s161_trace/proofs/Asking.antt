@@ -34,7 +34,7 @@ module _ (task : TraceTask) (conf : Conf) (file : List ℕ) (IsSome : State → 
   unasked_is_none fault (inr h) = subst IsNoFile (sym h.3) tt
 
   run_is_none : (fault : Fault) → FailsRun task conf file IsSome IsAll a c fault → IsNoFile fault
-  run_is_none fault (inl h) = subst IsNoFile (sym h.fault_is) (boot_is_none h.error)
+  run_is_none fault (inl h) = boot_is_none file conf fault h.is_boot_fault
   run_is_none fault (inr (inl h)) = unasked_is_none fault h.is_unasked
   run_is_none fault (inr (inr h)) = printing_is_none h.filter h.booted IsSome IsAll h.state a c fault h.fails
 

@@ -7,10 +7,10 @@ use Rattle.m161_machine.specs.declared.conf.BootError.{BootError}
 use Rattle.m161_machine.specs.declared.event.Entry.{Entry}
 use Rattle.m161_machine.specs.declared.event.Event.{Event}
 use Rattle.m161_machine.specs.declared.conf.Conf.{Conf}
-use Rattle.m161_machine.specs.History.{Boots, BootsState, History, IsBootState, boot_fault}
+use Rattle.m161_machine.specs.History.{Boots, History, IsBootState, boot_fault}
 use Rattle.m161_machine.specs.State.{State}
 use Rattle.m161_text.specs.Lines.{text_of, with_line_end}
-use Rattle.s161_base.specs.Faults.{BootsIn, fault_of_boot}
+use Rattle.s161_base.specs.Faults.{BootsIn, IsBootFault}
 use Rattle.s161_base.specs.Known.{OfText}
 use Rattle.s161_base.specs.Listed.{ListsFirst, ListsFor}
 use Rattle.s161_run.proofs.Listing.{order_unbooted, unbooted}
@@ -120,19 +120,11 @@ boots_as file conf None m h = (refl, record { start = m.start; conf_is = h.conf_
 pub booted_so : (file : List ℕ) (conf : Conf) (m : History) → Boots file conf (boot_fault file conf) (Ok m) → BootsIn file conf m.state
 booted_so file conf m h = boots_as file conf (boot_fault file conf) m h
 
--- and why not
-fails_as : (file : List ℕ) (conf : Conf) (fault : Option BootError) (e : BootError) → Boots file conf fault (Err e) →
-    BootsState file conf fault (Err e)
-fails_as file conf (Some first) e h = h
-fails_as file conf None e h = h
-
 -- runs from the boot on
 module _ (task : TraceTask) (conf : Conf) (file : List ℕ) (IsSome : State → List Entry → State → Type 0) (IsAll : State → List Entry → RunStop → State → Type 0)
     (a : Option (List ℕ)) where
-  pub not_booted : (e : BootError) (fault : Fault) → Boots file conf (boot_fault file conf) (Err e) → fault ≡ fault_of_boot e →
-      FailsRun task conf file IsSome IsAll a a fault
-  not_booted e fault answer fault_is =
-      inl (record { error = e; answer = fails_as file conf (boot_fault file conf) e answer; fault_is = fault_is; same = refl })
+  pub not_booted : (fault : Fault) → IsBootFault file conf fault → FailsRun task conf file IsSome IsAll a a fault
+  not_booted fault h = inl (record { is_boot_fault = h; same = refl })
 
   module _ (s : State) (boots : BootsIn file conf s) where
     pub without_filter : (fault : Fault) → IsUnasked task conf.ram file fault → FailsRun task conf file IsSome IsAll a a fault
@@ -256,8 +248,7 @@ module _ (task : TraceTask) (drive : Option Drive) (drive_is : task.drive ≡ dr
 
     module _ (IsSome : State → List Entry → State → Type 0)
         (begins : (s t : State) (entries : List Entry) → IsSome s entries t → Begins drive files input s entries t)
-        (unbooted : (e : BootError) → BootsState file conf (boot_fault file conf) (Err e) →
-        IsEarlyFault drive task files known input (fault_of_boot e))
+        (unbooted : (fault : Fault) → IsBootFault file conf fault → IsEarlyFault drive task files known input fault)
         (has_inputs : HasInputs drive files input) where
       some_written : (w : LineFilter) (s t : State) (is : IsWholeFilter task conf.ram file s IsAll w) (entries : List Entry) →
           (IsSome s entries t × AppendsSome a c (text_of (lines_from w 0 s entries)))
@@ -314,8 +305,7 @@ module _ (task : TraceTask) (drive : Option Drive) (drive_is : task.drive ≡ dr
       }
 
       task_failed : (fault : Fault) → FailsRun task conf file IsSome IsAll a c fault → IsTraceFault task files known (streams input left a c) fault
-      task_failed fault (inl h) =
-          early fault (subst (IsEarlyFault drive task files known input) (sym h.fault_is) (unbooted h.error h.answer)) h.same
+      task_failed fault (inl h) = early fault (unbooted fault h.is_boot_fault) h.same
       task_failed fault (inr (inl h)) = no_word h.booted h.boots fault h.is_unasked h.same
       task_failed fault (inr (inr h)) = in_run h.filter h.booted h.state h.boots h.is_filter fault h.fails
 
@@ -340,9 +330,8 @@ module _ (task : TraceTask) (files : List ℕ → Option (List ℕ)) (known inpu
     begins_none : (s t : State) (entries : List Entry) → MakesSome listed s entries t → Begins None files input s entries t
     begins_none s t entries h = record { listed = listed; lists = lists; makes = h }
 
-    unbooted_none : (e : BootError) → BootsState file conf (boot_fault file conf) (Err e) →
-        IsFaultOf (run_of task) known input (fault_of_boot e)
-    unbooted_none e h = unbooted (run_of task) known input file is.0 is_file is.1 is.2.0 listed conf e is.2.1 h
+    unbooted_none : (fault : Fault) → IsBootFault file conf fault → IsFaultOf (run_of task) known input fault
+    unbooted_none fault h = unbooted (run_of task) known input file is.0 is_file is.1 is.2.0 listed conf fault is.2.1 h
 
     pub schedule_ok : IfOk r (PrintsRun task conf file (MakesAll listed) a c) → IfOk r (IsTraced task files known (streams input left a c))
     schedule_ok =
@@ -394,9 +383,8 @@ module _ (task : TraceTask) (options : Drive) (files : List ℕ → Option (List
         Begins (Some options) files input s entries t
     begins_some input s t entries h = record { keys = keys; first = first; inputs = ordered; goes = h }
 
-    unbooted_some : (e : BootError) → BootsState file conf (boot_fault file conf) (Err e) →
-        IsOrderFault task.image task.size options files known (fault_of_boot e)
-    unbooted_some e h = order_unbooted task.image task.size options files known file inputs.is_file keys first conf e inputs h
+    unbooted_some : (fault : Fault) → IsBootFault file conf fault → IsOrderFault task.image task.size options files known fault
+    unbooted_some fault h = order_unbooted task.image task.size options files known file inputs.is_file keys first conf fault inputs h
 
     pub drive_ok : IfOk r (PrintsRun task conf file (GoesAll (rules_of options keys) options.events first) a c) →
         IfOk r (λ stop. (input : Option (List ℕ)) → IsTraced task files known (streams input input a c) stop)

@@ -26,6 +26,7 @@ use s161_base::input::read_input;
 use s161_base::listed::{Planned, plan_run};
 use s161_base::sample::read_image;
 use s161_command::{Drive, TraceTask};
+use s161_run::booted::boot_machine;
 use s161_run::events::RunStop;
 use s161_run::inputs::{Inputs, read_inputs};
 use std::alloc::Global;
@@ -136,7 +137,7 @@ fn run_schedule<'a, O: Write>(
     ensures err { IfErr result (FailsRun task.now conf file.now (MakesSome events.now)
         (MakesAll events.now) (O.contents output.old) (O.contents output.new)) }
 {
-    let mut machine = Machine::boot(alloc, file, conf)?;
+    let mut machine = boot_machine(alloc, file, conf)?;
     let filter = LineFilter::of(alloc, task, conf.ram, file)?;
     let filter = share_schedule(alloc, task, conf.ram, &machine, events, filter)?;
     print_schedule(alloc, &mut machine, events, filter, output)
@@ -216,7 +217,7 @@ fn run_drive<'a, O: Write>(
         (O.contents output.old) (O.contents output.new)) }
 {
     let conf = read.first.conf;
-    let mut machine = Machine::boot(alloc, &read.file, conf)?;
+    let mut machine = boot_machine(alloc, &read.file, conf)?;
     let filter = LineFilter::of(alloc, task, conf.ram, &read.file)?;
     let filter = share_drive(alloc, task, &machine, options, read, filter)?;
     print_drive(alloc, &mut machine, options, read, filter, output)

@@ -1,13 +1,11 @@
-use Rattle.std.specs.Prelude.{◌≡◌, ◌⊎◌, ℕ, ◌/◌, true, false, List, Option, None, Some, Err}
+use Rattle.std.specs.Prelude.{◌≡◌, ◌⊎◌, ℕ, ◌/◌, true, false, List, Option, None, Some}
 use Rattle.std.proofs.Common.{Bor}
-use Rattle.m161_machine.specs.declared.conf.BootError.{BootError}
 use Rattle.m161_machine.specs.declared.conf.Conf.{Conf}
 use Rattle.m161_machine.specs.declared.event.Entry.{Entry}
-use Rattle.m161_machine.specs.History.{BootsState, boot_fault}
 use Rattle.m161_machine.specs.State.{State}
 use Rattle.s161_base.specs.declared.fault.Fault.{Fault}
 use Rattle.s161_base.specs.declared.fault.Fault.TheVariants.{Memory, Touches}
-use Rattle.s161_base.specs.Faults.{BootsIn, fault_of_boot}
+use Rattle.s161_base.specs.Faults.{BootsIn, IsBootFault}
 use Rattle.s161_command.specs.declared.task.TraceTask.{TraceTask}
 use Rattle.s161_run.specs.declared.events.RunStop.{RunStop}
 use Rattle.s161_trace.specs.declared.filter.LineFilter.{LineFilter}
@@ -57,10 +55,7 @@ pub record PrintsRun
 pub record IsUnbooted
     (conf : Conf) (file : List ℕ) (before after : Option (List ℕ)) (fault : Fault)
     : Type 0 where
-  pub error : BootError
-  pub answer :
-      BootsState file conf (boot_fault file conf) (Err error)
-  pub fault_is : fault ≡ fault_of_boot error
+  pub is_boot_fault : IsBootFault file conf fault
   pub same : after ≡ before
 
 -- the word that the task asks for stands for none, or memory was refused

@@ -1,7 +1,6 @@
-use Rattle.std.proofs.Common.{Err, inl, subst}
+use Rattle.std.proofs.Common.{inl, subst, sym}
 use Rattle.std.proofs.lemmas.Result.{err_from_is_err_and}
-use Rattle.m161_machine.specs.History.{Boots, boot_fault}
-use Rattle.s161_base.specs.Faults.{BootsIn}
+use Rattle.s161_base.specs.Faults.{BootsIn, IsBootFault}
 use Rattle.s161_run.specs.Driven.{rules_of}
 use Rattle.s161_trace.specs.Traces.{GoesSome}
 use Rattle.s161_trace.specs.helpers.Driven.{GoesAll}
@@ -19,8 +18,9 @@ returns-in_err-machine-clause-err g c =
     let rules = rules_of c.args.options c.args.read.now.keys.items in
     let first = c.args.read.now.first.events in
     ends_so (FailsRun task conf file (GoesSome rules c.args.options.events first) (GoesAll rules c.args.options.events first) a a) c.from_residual.result made.0 made.1
-    (not_booted task conf file (GoesSome rules c.args.options.events first) (GoesAll rules c.args.options.events first) a c.in_err-machine.field-0.0 made.0
-    (subst (λ bytes. Boots bytes conf (boot_fault bytes conf) (Err c.in_err-machine.field-0.0)) c.deref.ensures.value c.in_err-machine.ensures.answer) made.2)
+    (not_booted task conf file (GoesSome rules c.args.options.events first) (GoesAll rules c.args.options.events first) a made.0
+    (subst (IsBootFault file conf) (sym made.2)
+    (subst (λ bytes. IsBootFault bytes conf c.in_err-machine.field-0.0) c.deref.ensures.value c.in_err-machine.ensures.fault)))
 
 pub returns-in_err-filter-clause-err : goal.returns-in_err-filter-clause-err
 returns-in_err-filter-clause-err g c =
@@ -29,7 +29,7 @@ returns-in_err-filter-clause-err g c =
     let file = c.args.read.now.file.items in
     let conf = c.args.read.now.first.conf in
     let m = c.in_ok-machine.machine in
-    let boots = subst (λ bytes. BootsIn bytes conf m.state) c.deref.ensures.value (booted_so c.deref.result.now conf m c.in_ok-machine.ensures.answer) in
+    let boots = subst (λ bytes. BootsIn bytes conf m.state) c.deref.ensures.value (booted_so c.deref.result.now conf m c.in_ok-machine.ensures.ok) in
     let rules = rules_of c.args.options c.args.read.now.keys.items in
     let first = c.args.read.now.first.events in
     rw (made.1, made.2)
@@ -43,7 +43,7 @@ returns-in_err-filter-2-clause-err g c =
     let file = c.args.read.now.file.items in
     let conf = c.args.read.now.first.conf in
     let m = c.in_ok-machine.machine in
-    let boots = subst (λ bytes. BootsIn bytes conf m.state) c.deref.ensures.value (booted_so c.deref.result.now conf m c.in_ok-machine.ensures.answer) in
+    let boots = subst (λ bytes. BootsIn bytes conf m.state) c.deref.ensures.value (booted_so c.deref.result.now conf m c.in_ok-machine.ensures.ok) in
     let rules = rules_of c.args.options c.args.read.now.keys.items in
     let first = c.args.read.now.first.events in
     rw (made.1, made.2)
@@ -55,7 +55,7 @@ returns-clause-ok g c =
     let file = c.args.read.now.file.items in
     let conf = c.args.read.now.first.conf in
     let m = c.in_ok-machine.machine in
-    let boots = subst (λ bytes. BootsIn bytes conf m.state) c.deref.ensures.value (booted_so c.deref.result.now conf m c.in_ok-machine.ensures.answer) in
+    let boots = subst (λ bytes. BootsIn bytes conf m.state) c.deref.ensures.value (booted_so c.deref.result.now conf m c.in_ok-machine.ensures.ok) in
     let rules = rules_of c.args.options c.args.read.now.keys.items in
     let first = c.args.read.now.first.events in
     run_prints task conf file (GoesSome rules c.args.options.events first) (GoesAll rules c.args.options.events first) (g.O.Write.contents c.args.output.now) m.state boots
@@ -70,7 +70,7 @@ returns-clause-err g c =
     let file = c.args.read.now.file.items in
     let conf = c.args.read.now.first.conf in
     let m = c.in_ok-machine.machine in
-    let boots = subst (λ bytes. BootsIn bytes conf m.state) c.deref.ensures.value (booted_so c.deref.result.now conf m c.in_ok-machine.ensures.answer) in
+    let boots = subst (λ bytes. BootsIn bytes conf m.state) c.deref.ensures.value (booted_so c.deref.result.now conf m c.in_ok-machine.ensures.ok) in
     let rules = rules_of c.args.options c.args.read.now.keys.items in
     let first = c.args.read.now.first.events in
     run_fails task conf file (GoesSome rules c.args.options.events first) (GoesAll rules c.args.options.events first) (g.O.Write.contents c.args.output.now) m.state boots

@@ -1,5 +1,6 @@
-use Rattle.std.proofs.Common.{inl}
+use Rattle.std.proofs.Common.{inl, subst, sym}
 use Rattle.std.proofs.lemmas.Result.{err_from_is_err_and}
+use Rattle.s161_base.specs.Faults.{IsBootFault}
 use Rattle.s161_trace.specs.Traces.{MakesSome}
 use Rattle.s161_trace.specs.helpers.Scheduled.{MakesAll}
 use Rattle.s161_trace.specs.helpers.Booted.{FailsRun}
@@ -13,8 +14,7 @@ returns-in_err-machine-clause-err g c =
     let file = c.args.file.now in
     let a = g.O.Write.contents c.args.output.now in
     ends_so (FailsRun task c.args.conf file (MakesSome c.args.events.now) (MakesAll c.args.events.now) a a) c.from_residual.result made.0 made.1
-    (not_booted task c.args.conf file (MakesSome c.args.events.now) (MakesAll c.args.events.now) a c.in_err-machine.field-0.0 made.0
-    c.in_err-machine.ensures.answer made.2)
+    (not_booted task c.args.conf file (MakesSome c.args.events.now) (MakesAll c.args.events.now) a made.0 (subst (IsBootFault file c.args.conf) (sym made.2) c.in_err-machine.ensures.fault))
 
 pub returns-in_err-filter-clause-err : goal.returns-in_err-filter-clause-err
 returns-in_err-filter-clause-err g c =
@@ -22,7 +22,7 @@ returns-in_err-filter-clause-err g c =
     let task = c.args.task.now in
     let file = c.args.file.now in
     let m = c.in_ok-machine.machine in
-    let boots = booted_so file c.args.conf m c.in_ok-machine.ensures.answer in
+    let boots = booted_so file c.args.conf m c.in_ok-machine.ensures.ok in
     rw (made.1, made.2)
     (without_filter task c.args.conf file (MakesSome c.args.events.now) (MakesAll c.args.events.now) (g.O.Write.contents c.args.output.now) m.state boots c.in_err-filter.field-0.0 c.in_err-filter.ensures.err)
 
@@ -32,7 +32,7 @@ returns-in_err-filter-2-clause-err g c =
     let task = c.args.task.now in
     let file = c.args.file.now in
     let m = c.in_ok-machine.machine in
-    let boots = booted_so file c.args.conf m c.in_ok-machine.ensures.answer in
+    let boots = booted_so file c.args.conf m c.in_ok-machine.ensures.ok in
     rw (made.1, made.2)
     (without_filter task c.args.conf file (MakesSome c.args.events.now) (MakesAll c.args.events.now) (g.O.Write.contents c.args.output.now) m.state boots c.in_err-filter-2.field-0.0 (inl c.in_err-filter-2.ensures.err))
 
@@ -41,7 +41,7 @@ returns-clause-ok g c =
     let task = c.args.task.now in
     let file = c.args.file.now in
     let m = c.in_ok-machine.machine in
-    let boots = booted_so file c.args.conf m c.in_ok-machine.ensures.answer in
+    let boots = booted_so file c.args.conf m c.in_ok-machine.ensures.ok in
     run_prints task c.args.conf file (MakesSome c.args.events.now) (MakesAll c.args.events.now) (g.O.Write.contents c.args.output.now) m.state boots
     c.in_ok-filter-2.filter
     (shared_so task c.args.conf.ram file m.state (MakesAll c.args.events.now) c.in_ok-filter.filter c.in_ok-filter-2.filter c.in_ok-filter.ensures.ok c.in_ok-filter-2.ensures.ok.0 c.in_ok-filter-2.ensures.ok.1)
@@ -52,7 +52,7 @@ returns-clause-err g c =
     let task = c.args.task.now in
     let file = c.args.file.now in
     let m = c.in_ok-machine.machine in
-    let boots = booted_so file c.args.conf m c.in_ok-machine.ensures.answer in
+    let boots = booted_so file c.args.conf m c.in_ok-machine.ensures.ok in
     run_fails task c.args.conf file (MakesSome c.args.events.now) (MakesAll c.args.events.now) (g.O.Write.contents c.args.output.now) m.state boots
     c.in_ok-filter-2.filter
     (shared_so task c.args.conf.ram file m.state (MakesAll c.args.events.now) c.in_ok-filter.filter c.in_ok-filter-2.filter c.in_ok-filter.ensures.ok c.in_ok-filter-2.ensures.ok.0 c.in_ok-filter-2.ensures.ok.1)
