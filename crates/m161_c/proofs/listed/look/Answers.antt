@@ -1,0 +1,1 @@
+use Rattle.m161_c.proofs.listed.look.Goals as goal
