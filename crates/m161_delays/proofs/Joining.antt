@@ -1,10 +1,9 @@
-use Rattle.std.proofs.Common.{◌≡◌, ◌∙◌, refl, ap, sym, subst, ℕ, ◌+◌, ◌<◌, ◌≤◌, ◌%◌, ◌^◌, Bool, true, false, List, [], ◌∷◌, ◌++◌, length, arith, ◌⊎◌, inl, inr}
+use Rattle.std.proofs.Common.{◌≡◌, refl, ap, subst, ℕ, ◌+◌, ◌<◌, ◌≤◌, ◌%◌, ◌^◌, Bool, true, false, List, [], ◌∷◌, ◌++◌, length, arith, ◌⊎◌, inl, inr}
 use Rattle.std.proofs.lemmas.Bool.Decides.{nat_tests}
 use Rattle.std.proofs.lemmas.List.{length-append}
-use Rattle.std.specs.Prelude.{◌==◌, nat_lt, Option, None, Some}
+use Rattle.std.specs.Prelude.{nat_lt, Option, None, Some}
 use Rattle.m161_jobs.specs.Trials.{AreRight}
 use Rattle.m161_jobs.proofs.Rights.{right_more}
-use Rattle.m161_order.specs.declared.delays.Delays.{Delays}
 use Rattle.m161_order.specs.Delays.{delays_of}
 use Rattle.m161_delays.specs.declared.slice.Slice.{Slice}
 use Rattle.m161_delays.specs.declared.slice.Stop.{Stop}
@@ -12,7 +11,7 @@ use Rattle.m161_delays.specs.declared.slice.Stop.TheVariants.{Next, Wrong}
 use Rattle.m161_delays.specs.declared.search.Class.{Class}
 use Rattle.m161_delays.specs.Lists.{ComesBefore, IsLess}
 use Rattle.m161_delays.specs.Runs.{AreThose, IsUsefulOf}
-use Rattle.m161_delays.specs.Slices.{AreJoined, ComesBeforeStop, FindsWhole, IsOfWhole, IsSlice, IsUsefulFrom, MayStop, StopsAt, stopped_at}
+use Rattle.m161_delays.specs.Slices.{AreJoined, ComesBeforeStop, FindsWhole, IsOfWhole, IsUsefulFrom, MayStop, StopsAt, stopped_at}
 use Rattle.m161_delays.proofs.Counting.{right_among, those_more, those_same}
 use Rattle.m161_delays.proofs.Slices.{not_before_none}
 
@@ -25,11 +24,11 @@ ge_of : (a b : ℕ) → nat_lt a b ≡ false → b ≤ a
 ge_of a b h = grind (arith, nat_tests)
 
 -- of lists as long, one is less than another, and one isn't: so it is less than that
-less_to_if : (a b c : ℕ) (as bs cs : List ℕ) (more : Bool) → nat_lt b c ≡ more → b ≤ c → (IsLess as bs → (IsLess cs bs → ⊥) → IsLess as cs) →
-    (a < b) ⊎ ((a ≡ b) × IsLess as bs) → ((c ≡ b) × IsLess cs bs → ⊥) → (a < c) ⊎ ((a ≡ c) × IsLess as cs)
-less_to_if a b c as bs cs more is least rest (inl less) not = inl (omega (arith, less, least))
-less_to_if a b c as bs cs true is least rest (inr same) not = let first = same.0 in let less = lt_of b c is in inl (omega (arith, first, less))
-less_to_if a b c as bs cs false is least rest (inr same) not =
+less_to_if : (a b c : ℕ) (ps qs rs : List ℕ) (more : Bool) → nat_lt b c ≡ more → b ≤ c → (IsLess ps qs → (IsLess rs qs → ⊥) → IsLess ps rs) →
+    (a < b) ⊎ ((a ≡ b) × IsLess ps qs) → ((c ≡ b) × IsLess rs qs → ⊥) → (a < c) ⊎ ((a ≡ c) × IsLess ps rs)
+less_to_if a b c ps qs rs more is least rest (inl less) not = inl (omega (arith, less, least))
+less_to_if a b c ps qs rs true is least rest (inr same) not = let first = same.0 in let less = lt_of b c is in inl (omega (arith, first, less))
+less_to_if a b c ps qs rs false is least rest (inr same) not =
     let first = same.0 in
     let above = ge_of b c is in
     let equal : c ≡ b = omega (arith, least, above) in
@@ -41,11 +40,11 @@ least_if b c false is not = ge_of c b is
 
 less_to : (xs ds ys : List ℕ) → length ys ≡ length ds → IsLess xs ds → (IsLess ys ds → ⊥) → IsLess xs ys
 less_to [] ds ys long less not = absurd less
-less_to (a ∷ as) [] ys long less not = absurd less
-less_to (a ∷ as) (b ∷ bs) [] long less not = absurd (let bad : ⊥ = omega (arith, long) in bad)
-less_to (a ∷ as) (b ∷ bs) (c ∷ cs) long less not =
-    less_to_if a b c as bs cs (nat_lt b c) refl (least_if b c (nat_lt c b) refl (λ smaller. not (inl smaller)))
-    (less_to as bs cs (omega (arith, long))) less (λ rest. not (inr rest))
+less_to (a ∷ ps) [] ys long less not = absurd less
+less_to (a ∷ ps) (b ∷ qs) [] long less not = absurd (let bad : ⊥ = omega (arith, long) in bad)
+less_to (a ∷ ps) (b ∷ qs) (c ∷ rs) long less not =
+    less_to_if a b c ps qs rs (nat_lt b c) refl (least_if b c (nat_lt c b) refl (λ smaller. not (inl smaller)))
+    (less_to ps qs rs (omega (arith, long))) less (λ rest. not (inr rest))
 
 to_if : (xs ds ys : List ℕ) (longer : Bool) → nat_lt (length ds) (length ys) ≡ longer → length ds ≤ length ys → ComesBefore xs ds →
     (ComesBefore ys ds → ⊥) → ComesBefore xs ys
@@ -63,13 +62,13 @@ before_to xs ds ys order not =
     (least_if (length ds) (length ys) (nat_lt (length ys) (length ds)) refl (λ shorter. not (inl shorter))) order not
 
 -- a list comes before another, or it doesn't
-not_less_above : (a b : ℕ) (as bs : List ℕ) → b < a → IsLess (a ∷ as) (b ∷ bs) → ⊥
-not_less_above a b as bs more (inl less) = let bad : ⊥ = omega (arith, less, more) in bad
-not_less_above a b as bs more (inr rest) = let same = rest.0 in let bad : ⊥ = omega (arith, same, more) in bad
+not_less_above : (a b : ℕ) (ps qs : List ℕ) → b < a → IsLess (a ∷ ps) (b ∷ qs) → ⊥
+not_less_above a b ps qs more (inl less) = let bad : ⊥ = omega (arith, less, more) in bad
+not_less_above a b ps qs more (inr rest) = let same = rest.0 in let bad : ⊥ = omega (arith, same, more) in bad
 
-not_less_rest : (a b : ℕ) (as bs : List ℕ) → b ≤ a → (IsLess as bs → ⊥) → IsLess (a ∷ as) (b ∷ bs) → ⊥
-not_less_rest a b as bs least not (inl less) = let bad : ⊥ = omega (arith, less, least) in bad
-not_less_rest a b as bs least not (inr rest) = not rest.1
+not_less_rest : (a b : ℕ) (ps qs : List ℕ) → b ≤ a → (IsLess ps qs → ⊥) → IsLess (a ∷ ps) (b ∷ qs) → ⊥
+not_less_rest a b ps qs least not (inl less) = let bad : ⊥ = omega (arith, less, least) in bad
+not_less_rest a b ps qs least not (inr rest) = not rest.1
 
 not_before_longer : (xs ys : List ℕ) → length ys < length xs → ComesBefore xs ys → ⊥
 not_before_longer xs ys more (inl shorter) = let bad : ⊥ = omega (arith, shorter, more) in bad
@@ -79,18 +78,18 @@ not_before_as_long : (xs ys : List ℕ) → length ys ≤ length xs → (IsLess 
 not_before_as_long xs ys least not (inl shorter) = let bad : ⊥ = omega (arith, shorter, least) in bad
 not_before_as_long xs ys least not (inr same) = not same.1
 
-less_or_if : (a b : ℕ) (as bs : List ℕ) (less more : Bool) → nat_lt a b ≡ less → nat_lt b a ≡ more → IsLess as bs ⊎ (IsLess as bs → ⊥) →
-    IsLess (a ∷ as) (b ∷ bs) ⊎ (IsLess (a ∷ as) (b ∷ bs) → ⊥)
-less_or_if a b as bs true more is there rest = inl (inl (lt_of a b is))
-less_or_if a b as bs false true is there rest = inr (not_less_above a b as bs (lt_of b a there))
-less_or_if a b as bs false false is there (inl less) =
+less_or_if : (a b : ℕ) (ps qs : List ℕ) (less more : Bool) → nat_lt a b ≡ less → nat_lt b a ≡ more → IsLess ps qs ⊎ (IsLess ps qs → ⊥) →
+    IsLess (a ∷ ps) (b ∷ qs) ⊎ (IsLess (a ∷ ps) (b ∷ qs) → ⊥)
+less_or_if a b ps qs true more is there rest = inl (inl (lt_of a b is))
+less_or_if a b ps qs false true is there rest = inr (not_less_above a b ps qs (lt_of b a there))
+less_or_if a b ps qs false false is there (inl less) =
     let above = ge_of a b is in let below = ge_of b a there in inl (inr (omega (arith, above, below), less))
-less_or_if a b as bs false false is there (inr not) = inr (not_less_rest a b as bs (ge_of a b is) not)
+less_or_if a b ps qs false false is there (inr not) = inr (not_less_rest a b ps qs (ge_of a b is) not)
 
 less_or : (xs ys : List ℕ) → IsLess xs ys ⊎ (IsLess xs ys → ⊥)
 less_or [] ys = inr (λ h. h)
-less_or (a ∷ as) [] = inr (λ h. h)
-less_or (a ∷ as) (b ∷ bs) = less_or_if a b as bs (nat_lt a b) (nat_lt b a) refl refl (less_or as bs)
+less_or (a ∷ ps) [] = inr (λ h. h)
+less_or (a ∷ ps) (b ∷ qs) = less_or_if a b ps qs (nat_lt a b) (nat_lt b a) refl refl (less_or ps qs)
 
 before_or_if : (xs ys : List ℕ) (shorter longer : Bool) → nat_lt (length xs) (length ys) ≡ shorter → nat_lt (length ys) (length xs) ≡ longer →
     IsLess xs ys ⊎ (IsLess xs ys → ⊥) → ComesBefore xs ys ⊎ (ComesBefore xs ys → ⊥)

@@ -1,11 +1,10 @@
-use Rattle.std.proofs.Common.{◌≡◌, ◌∙◌, refl, ap, sym, subst, ℕ, ◌+◌, ◌<◌, ◌≤◌, ◌%◌, ◌^◌, Bool, true, false, List, [], ◌∷◌, length, arith, ◌⊎◌, inl, inr}
+use Rattle.std.proofs.Common.{◌≡◌, refl, sym, subst, ℕ, ◌+◌, ◌<◌, ◌≤◌, ◌%◌, ◌^◌, Bool, true, false, List, [], ◌∷◌, length, arith, ◌⊎◌, inl, inr}
 use Rattle.std.proofs.lemmas.Bool.Decides.{nat_tests}
 use Rattle.std.specs.Prelude.{◌==◌, if◌then◌else◌, min, nat_lt, Option, None, Some}
 use Rattle.m161_jobs.specs.Trials.{AreRight}
 use Rattle.m161_jobs.proofs.Rights.{right_few}
 use Rattle.m161_order.specs.declared.delays.Delays.{Delays}
 use Rattle.m161_order.specs.Delays.{delays_of}
-use Rattle.m161_delays.specs.declared.slice.Slice.{Slice}
 use Rattle.m161_delays.specs.declared.slice.Stop.{Stop}
 use Rattle.m161_delays.specs.declared.slice.Stop.TheVariants.{Next, Wrong}
 use Rattle.m161_delays.specs.declared.walk.Sums.{Sums}
@@ -13,12 +12,11 @@ use Rattle.m161_delays.specs.declared.search.Class.{Class}
 use Rattle.m161_delays.specs.Lists.{ComesBefore, IsLess}
 use Rattle.m161_delays.specs.Runs.{IsUsefulOf}
 use Rattle.m161_delays.specs.Search.{AreClean, IsFirst}
-use Rattle.m161_delays.specs.Slices.{ComesBeforeStop, IsSlice, IsUsefulFrom, MayStop, stopped_at}
+use Rattle.m161_delays.specs.Slices.{IsSlice, IsUsefulFrom, MayStop, stopped_at}
 use Rattle.m161_delays.specs.helpers.Slicing.{AreMade, GoesAlong, IsBehindFrom, MayStopIn, StopsSo, rest_at}
 use Rattle.m161_delays.specs.helpers.Walking.{IsBehind}
-use Rattle.m161_delays.proofs.Counting.{counted_right, those_same}
+use Rattle.m161_delays.proofs.Counting.{counted_right, made_more, made_none, made_same, those_same}
 use Rattle.m161_delays.proofs.Lengths.{IsShorter, by_length, long_of, of_long}
-use Rattle.m161_delays.proofs.Slicing.{made_more, made_none, made_same}
 
 -- The lists of a class from one on, by their lengths.
 
@@ -196,6 +194,3 @@ whole_first class offers right wrong limit s t delays what h = record {
       counted_right (λ z. IsUsefulFrom class offers [] z × ComesBefore z (delays_of delays)) right s t others h.before.counted
       ((useful, not_before_none others), order);
 }
-
-pub no_limit : {n : ℕ} → ◌≡◌ {A = Option ℕ} None (Some n) → ⊥
-no_limit {n} h = let bad : ⊥ = cc in bad

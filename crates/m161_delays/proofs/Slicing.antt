@@ -1,6 +1,6 @@
-use Rattle.std.proofs.Common.{◌≡◌, ◌∙◌, refl, ap, sym, subst, ℕ, suc, ◌+◌, ◌<◌, ◌≤◌, ◌%◌, ◌^◌, Bool, true, false, List, [], ◌∷◌, ◌++◌, length, arith, append_assoc, ◌⊎◌, inl, inr}
+use Rattle.std.proofs.Common.{◌≡◌, ◌∙◌, refl, ap, sym, subst, ℕ, suc, ◌+◌, ◌<◌, ◌≤◌, Bool, true, false, List, [], ◌∷◌, ◌++◌, length, arith, append_assoc, ◌⊎◌, inl, inr}
 use Rattle.std.proofs.lemmas.Bool.Decides.{nat_tests}
-use Rattle.std.proofs.lemmas.List.{append-nil, length-append}
+use Rattle.std.proofs.lemmas.List.{append-nil}
 use Rattle.std.specs.Prelude.{◌==◌, if◌then◌else◌, max, nat_lt, slice_index, Option, None, Some}
 use Rattle.m161_order.specs.declared.delays.Delays.{Delays}
 use Rattle.m161_order.specs.Delays.{delays_of}
@@ -14,46 +14,12 @@ use Rattle.m161_delays.specs.Runs.{ChooseAlike, IsUsefulOf}
 use Rattle.m161_delays.specs.Slices.{stopped_at}
 use Rattle.m161_delays.specs.helpers.Slicing.{AreMade, GoesAlong, IsBehindFrom, StopsSo, first_of, rest_behind}
 use Rattle.m161_delays.specs.helpers.Walking.{IsBehind, IsBehindBelow}
-use Rattle.m161_delays.proofs.Counting.{counted_more, counted_none, counted_one, counted_same}
+use Rattle.m161_delays.proofs.Counting.{made_more, made_none, made_same}
 use Rattle.m161_delays.proofs.Judging.{not_before}
 use Rattle.m161_delays.proofs.Ordering.{less_behind, less_inside}
 use Rattle.m161_delays.proofs.Walking.{all_below, below_less, below_more, below_or_child, by_next, child_below, in_order, itself_behind, none_behind, none_below}
 
 -- The lists behind some numbers, from one on, by the place that is next.
-
--- runs that are made, up to a limit
-pub made_none : (A : List ℕ → Type 0) (right : List ℕ → Bool → Type 0) (limit : Option ℕ) (s : Sums) → ((z : List ℕ) → A z → ⊥) →
-    AreMade A right limit s s
-made_none A right limit s none = record { counted = counted_none A right s none; within = λ most is few. (omega arith, few) }
-
-pub made_more : (A B C : List ℕ → Type 0) (right : List ℕ → Bool → Type 0) (limit : Option ℕ) (s t u : Sums) →
-    ((x y : List ℕ) → A x → B y → ComesBefore x y) →
-    ((z : List ℕ) → A z → C z) → ((z : List ℕ) → B z → C z) → ((z : List ℕ) → C z → A z ⊎ B z) →
-    AreMade A right limit s t → AreMade B right limit t u → AreMade C right limit s u
-made_more A B C right limit s t u order of_a of_b split first second = record {
-  counted = counted_more A B C right s t u order of_a of_b split first.counted second.counted;
-  within = λ most is few.
-      let a = first.within most is few in
-      let b = second.within most is a.1 in
-      let here = a.0 in
-      let there = b.0 in
-      let size = length-append first.counted.lists second.counted.lists in (omega (arith, here, there, size), b.1);
-}
-
-pub made_same : (A B : List ℕ → Type 0) (right : List ℕ → Bool → Type 0) (limit : Option ℕ) (s t : Sums) → ((z : List ℕ) → A z → B z) →
-    ((z : List ℕ) → B z → A z) → AreMade A right limit s t → AreMade B right limit s t
-made_same A B right limit s t to back made = record { counted = counted_same A B right s t to back made.counted; within = made.within }
-
-pub made_one : (A : List ℕ → Type 0) (right : List ℕ → Bool → Type 0) (limit : Option ℕ) (s t : Sums) (x : List ℕ) (is_cut : Bool) → A x →
-    ((z : List ℕ) → A z → z ≡ x) → right x is_cut →
-    ((most : ℕ) → limit ≡ Some most → s.runs ≤ most → (s.runs < most) × (most < 2 ^ 64)) →
-    t.runs ≡ (s.runs + 1) % 2 ^ 64 → t.cut ≡ (s.cut + (if is_cut then 1 else 0)) % 2 ^ 64 →
-    AreMade A right limit s t
-made_one A right limit s t x is_cut so only is_right room runs cut = record {
-  counted = counted_one A right s t x is_cut so only is_right runs cut;
-  within = λ most is few.
-      let h = room most is few in let less = h.0 in let small = h.1 in (omega (arith, less, small, runs), omega (arith, less, small, runs));
-}
 
 -- one list, whose run isn't made or goes wrong
 none_before : (ns z : List ℕ) → (z ≡ ns) × ComesBefore z ns → ⊥

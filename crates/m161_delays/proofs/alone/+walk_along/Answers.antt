@@ -2,7 +2,7 @@ use Rattle.std.proofs.Common.{◌≡◌, ◌∙◌, ◌++◌, ◌∷◌, [], ◌
 use Rattle.std.specs.Prelude.{MatchOption, slice_index}
 use Rattle.m161_order.specs.Delays.{delays_of}
 use Rattle.m161_delays.specs.Lists.{times}
-use Rattle.m161_delays.specs.helpers.Slicing.{AreMade, GoesAlong, IsBehindFrom, StopsSo, rest_behind}
+use Rattle.m161_delays.specs.helpers.Slicing.{AreMade, GoesAlong, IsBehindFrom, StopsSo}
 use Rattle.m161_delays.specs.helpers.Walking.{IsLonger}
 use Rattle.m161_delays.proofs.Slicing.{IsBelowFrom, along_first, along_itself, along_last, along_stop, along_useful, along_useless, first_least}
 use Rattle.m161_delays.proofs.Walking.{ok_map}
@@ -10,17 +10,17 @@ use Rattle.m161_delays.specs.Runs.{StandsAt}
 use Rattle.m161_delays.specs.helpers.Last.{last_from}
 use Rattle.m161_delays.proofs.Points.{stands_copied, stands_longer, stands_on}
 use Rattle.m161_delays.proofs.alone.+walk_along.Goals as goal
-use Rattle.m161_delays.proofs.alone.+walk_along.Goals.{in-Some+in_ok-advance+in_ok-stop+in_default-2, in_default}
+use Rattle.m161_delays.proofs.alone.+walk_along.Goals.{in-Some+in_ok-advance+in_ok-stop+in_default-stop, in_default}
 
 pub returns-then-more-eq0-clause-ok : goal.returns-then-more-eq0-clause-ok
-returns-then-more-eq0-clause-ok g c =
+returns-then-more-eq0-clause-ok g t c =
     let runs = c.args.runs.now in
     ok_map c.judge_next.result
     (λ o h. along_itself c.args.class (g.T.Runs.offers runs) (g.T.Runs.right runs) (g.T.Runs.wrong runs) (delays_of c.args.delays) c.args.rest.now c.args.more
     c.args.limit c.args.sums.now c.judge_next.new.sums o c.if-more-eq0.true c.requires.useful h) c.judge_next.ensures.ok
 
 pub loop-number-init : goal.loop-number-init
-loop-number-init g c =
+loop-number-init g t c =
     let runs = c.args.runs.now in
     let numbers = delays_of c.args.delays in
     let IsOn = g.T.Runs.is_on runs in
@@ -37,7 +37,7 @@ loop-number-init g c =
     }
 
 pub returns-clause-ok : goal.returns-clause-ok
-returns-clause-ok g c =
+returns-clause-ok g t c =
     let runs = c.args.runs.now in
     let offers = g.T.Runs.offers runs in
     let right = g.T.Runs.right runs in
@@ -56,8 +56,8 @@ returns-clause-ok g c =
     (subst (λ k. AreMade (IsBelowFrom c.args.class offers numbers k rest c.loop-number.number) right limit c.args.sums.now c.loop-number.sums) some
     c.loop-number.invariant.made))
 
-pub returns-in-Some-2-clause-ok : goal.returns-in-Some-2-clause-ok
-returns-in-Some-2-clause-ok g c =
+pub returns-in-Some-stop-clause-ok : goal.returns-in-Some-stop-clause-ok
+returns-in-Some-stop-clause-ok g t c =
     let runs = c.args.runs.now in
     let class = c.args.class in
     let offers = g.T.Runs.offers runs in
@@ -72,17 +72,17 @@ returns-in-Some-2-clause-ok g c =
     let u = c.walk_along.new.sums in
     let some : c.args.more ≡ suc m = omega (arith, c.if-more-eq0.false) in
     let least = last_from class.from numbers in
-    let child : StopsSo (IsBehindFrom class offers (delays_of c.in-Some.longer) m c.rest_behind-left.result.now) right wrong limit s u c.in-Some-2.stop =
-    subst (GoesAlong (IsBehindFrom class offers (delays_of c.in-Some.longer) m c.rest_behind-left.result.now) right wrong limit s u) c.in-Some-2.is c.in_ok-stop.ensures.ok in
-    subst (λ j. StopsSo (IsBehindFrom class offers numbers j rest) right wrong limit c.args.sums.now u c.in-Some-2.stop) (sym some)
-    (along_stop class offers right wrong numbers rest m k least limit c.args.sums.now s u c.in-Some-2.stop
+    let child : StopsSo (IsBehindFrom class offers (delays_of c.in-Some.longer) m c.rest_behind-left.result.now) right wrong limit s u c.in-Some-stop.stop =
+    subst (GoesAlong (IsBehindFrom class offers (delays_of c.in-Some.longer) m c.rest_behind-left.result.now) right wrong limit s u) c.in-Some-stop.is c.in_ok-stop.ensures.ok in
+    subst (λ j. StopsSo (IsBehindFrom class offers numbers j rest) right wrong limit c.args.sums.now u c.in-Some-stop.stop) (sym some)
+    (along_stop class offers right wrong numbers rest m k least limit c.args.sums.now s u c.in-Some-stop.stop
     c.loop-number.invariant.least
     (subst (λ j. AreMade (IsBelowFrom class offers numbers j rest k) right limit c.args.sums.now s) some c.loop-number.invariant.made)
-    (subst (λ r. StopsSo (IsBehindFrom class offers (numbers ++ k ∷ []) m r) right wrong limit s u c.in-Some-2.stop) c.rest_behind-left.ensures
-    (subst (λ xs. StopsSo (IsBehindFrom class offers xs m c.rest_behind-left.result.now) right wrong limit s u c.in-Some-2.stop) c.in-Some.ensures.longer_is child)))
+    (subst (λ r. StopsSo (IsBehindFrom class offers (numbers ++ k ∷ []) m r) right wrong limit s u c.in-Some-stop.stop) c.rest_behind-left.ensures
+    (subst (λ xs. StopsSo (IsBehindFrom class offers xs m c.rest_behind-left.result.now) right wrong limit s u c.in-Some-stop.stop) c.in-Some.ensures.longer_is child)))
 
 pub loop-number-preserved : goal.loop-number-preserved
-loop-number-preserved g c =
+loop-number-preserved g t c =
     let runs = c.args.runs.now in
     let class = c.args.class in
     let offers = g.T.Runs.offers runs in
@@ -100,12 +100,12 @@ loop-number-preserved g c =
     let made : AreMade (IsBelowFrom class offers numbers c.args.more rest (k + 1)) right limit c.args.sums.now c.match-useful_longer.sums =
     subst (λ j. AreMade (IsBelowFrom class offers numbers j rest (k + 1)) right limit c.args.sums.now c.match-useful_longer.sums) (sym some)
     (elim c.match-useful_longer.branch [
-      | in-Some+in_ok-advance+in_ok-stop+in_default-2 w ↦
+      | in-Some+in_ok-advance+in_ok-stop+in_default-stop w ↦
           let left = w.rest_behind-left.result.now in
           let u = w.walk_along.new.sums in
           let child : AreMade (IsBehindFrom class offers (delays_of w.in-Some.longer) m left) right limit s u =
           subst (GoesAlong (IsBehindFrom class offers (delays_of w.in-Some.longer) m left) right (g.T.Runs.wrong runs) limit s u)
-          w.in_default-2.is w.in_ok-stop.ensures.ok in
+          w.in_default-stop.is w.in_ok-stop.ensures.ok in
           subst (AreMade (IsBelowFrom class offers numbers (suc m) rest (k + 1)) right limit c.args.sums.now) (sym w.sums-is)
           (along_useful class offers right numbers rest m k (last_from class.from numbers) limit c.args.sums.now s u c.loop-number.invariant.least before
           (subst (λ r. AreMade (IsBehindFrom class offers (numbers ++ k ∷ []) m r) right limit s u) w.rest_behind-left.ensures
@@ -122,7 +122,7 @@ loop-number-preserved g c =
       stands =
           stands_on IsOn numbers k (k + 1) c.match-useful_longer.on (omega arith)
           (elim c.match-useful_longer.branch [
-            | in-Some+in_ok-advance+in_ok-stop+in_default-2 w ↦
+            | in-Some+in_ok-advance+in_ok-stop+in_default-stop w ↦
                 subst (StandsAt IsOn numbers k) (sym w.on-is) w.in_ok-advance.ensures.ok
             | in_default w ↦ subst (StandsAt IsOn numbers k) (sym w.on-is) c.loop-number.invariant.stands
           ]);
@@ -130,9 +130,9 @@ loop-number-preserved g c =
     }
 
 pub advance-requires : goal.advance-requires
-advance-requires g c = c.loop-number.invariant.stands
+advance-requires g t c = c.loop-number.invariant.stands
 
 pub walk_along-requires-clause-point : goal.walk_along-requires-clause-point
-walk_along-requires-clause-point g c κs bounds =
+walk_along-requires-clause-point g t c κs bounds =
     stands_longer (g.T.Runs.is_on c.args.runs.now) c.args.class.from (delays_of c.args.delays) (delays_of c.in-Some.longer) c.loop-number.number
     c.advance.new.point c.in-Some.ensures.longer_is c.in_ok-advance.ensures.ok

@@ -1,6 +1,7 @@
 use Rattle.std.proofs.Common.{◌≡◌, ◌∙◌, refl, ap, ◌+◌, ◌%◌, ◌^◌}
 use Rattle.m161_order.specs.Delays.{delays_of}
-use Rattle.m161_delays.proofs.Slicing.{made_one, stops_next, stops_wrong}
+use Rattle.m161_delays.proofs.Counting.{made_one}
+use Rattle.m161_delays.proofs.Slicing.{stops_next, stops_wrong}
 use Rattle.m161_jobs.proofs.Judging.{right_of, wrong_of}
 use Rattle.m161_delays.proofs.alone.judge_next.Goals as goal
 

@@ -1,5 +1,4 @@
-use Rattle.std.proofs.Common.{◌≡◌, ◌∙◌, ◌≤◌, [], ap, sym, subst, length, arith}
-use Rattle.m161_delays.specs.Slices.{IsUsefulFrom}
+use Rattle.std.proofs.Common.{[], subst, arith}
 use Rattle.m161_delays.specs.helpers.Slicing.{AreMade, GoesAlong, IsBehindFrom, StopsSo, rest_at}
 use Rattle.m161_delays.proofs.Slices.{from_longer, from_none, from_stop, from_whole, reached}
 use Rattle.m161_delays.proofs.slice.slice_of.Goals as goal
