@@ -31,7 +31,8 @@ use Rattle.m161_c.specs.Driven.{rules_in}
 use Rattle.m161_c.specs.Seeds.{Asked, IsRightBy, IsToldRun, SeeksBooted}
 use Rattle.m161_c.specs.helpers.Listing.{IsLookedBy, IsRightFrom, IsWrongFrom, LooksBy}
 use Rattle.m161_c.specs.helpers.Seeking.{Begins}
-use Rattle.m161_c.proofs.Telling.{booted_as_one}
+use Rattle.m161_c.specs.Slices.{IsSlicedBy, TellsStop}
+use Rattle.m161_c.proofs.Telling.{begun, booted_as_one}
 
 -- Every list of a class has the run of a useful one.
 
@@ -146,6 +147,17 @@ slice_from a s q steps class from most slice begins h =
     slice_as class (offered_by a steps s) (IsRightFrom a s q steps) (HasRightRun a steps) (IsWrongFrom a s q steps) (HasWrongRun a steps) from most slice
     (λ x b right. right begins) (λ x w wrong. wrong begins) h
 
+pub sliced_by : (a : Asked) (s : State) (q : Question) (steps : ℕ) (class : Class) (from : List ℕ) (most : ℕ) (slice : Slice WrongRun) (told : SoughtSlice)
+    (events : List ℕ) → Begins a s q → IsSlice class (offered_by a steps s) (IsRightFrom a s q steps) (IsWrongFrom a s q steps) from most slice →
+    TellsStop a slice.runs slice.cut slice.stop told events → IsSlicedBy a steps class from most told events
+sliced_by a s q steps class from most slice told events begins h tells = record {
+  booted = s;
+  is_booted = begun a.file a.conf s begins.boots;
+  slice = slice;
+  is_slice = slice_from a s q steps class from most slice begins h;
+  is_told = tells;
+}
+
 -- what came of one run
 pub list_right : (a : Asked) (s : State) (q : Question) (steps : ℕ) (delays : Delays) (run : JudgedRun) (told : Option Told) → told ≡ None →
     (Begins a s q → IsToldRun a (Delayed steps delays) run told) → IsRightFrom a s q steps (delays_of delays) run.is_cut
@@ -154,29 +166,3 @@ list_right a s q steps delays run told is h = λ begins. (delays, refl, (run, su
 pub list_wrong : (a : Asked) (s : State) (q : Question) (steps : ℕ) (delays : Delays) (run : JudgedRun) (told : Option Told) (what : Told) → told ≡ Some what →
     (Begins a s q → IsToldRun a (Delayed steps delays) run told) → IsWrongFrom a s q steps (delays_of delays) (record { run = run; told = what })
 list_wrong a s q steps delays run told what is h = λ begins. (delays, refl, subst (IsToldRun a (Delayed steps delays) run) is (h begins))
-
--- the whole search as a slice has it
-err_as : {A B : Type 0} {n : ℕ} (why : ℕ) → ◌≡◌ {A = Result A ℕ} (Err why) (Err n) → ◌≡◌ {A = Result B ℕ} (Err why) (Err n)
-err_as why h = let same : why ≡ _ = cc in ap Err same
-
-listed_from : (a : Asked) (steps : ℕ) (class : Class) (from : List ℕ) (told : SoughtSlice) (events : List ℕ) (fault : Option BootError) →
-    SeeksBooted fault (IsLookedBy a steps class from None) a (Ok (told, events)) → SeeksBooted fault (IsListedBy a steps class) a (Ok (told.found, events))
-listed_from a steps class from told events (Some first) h = absurd cc
-listed_from a steps class from told events None h = h
-
-pub listed_by : (a : Asked) (steps : ℕ) (class : Class) (from : List ℕ) (told : SoughtSlice) (events : List ℕ) (fault : Option OrderError) →
-    LooksBy fault steps class from None a (Ok (told, events)) → SeeksListsOf fault a steps class (Ok (told.found, events))
-listed_by a steps class from told events (Some fault) h = absurd cc
-listed_by a steps class from told events None (inl memory) = absurd cc
-listed_by a steps class from told events None (inr h) = inr (listed_from a steps class from told events (boot_fault a.file a.conf) h)
-
-failed_from : (a : Asked) (steps : ℕ) (class : Class) (from : List ℕ) (why : ℕ) (fault : Option BootError) →
-    SeeksBooted fault (IsLookedBy a steps class from None) a (Err why) → SeeksBooted fault (IsListedBy a steps class) a (Err why)
-failed_from a steps class from why (Some first) h = err_as why h
-failed_from a steps class from why None h = h
-
-pub failed_by : (a : Asked) (steps : ℕ) (class : Class) (from : List ℕ) (why : ℕ) (fault : Option OrderError) →
-    LooksBy fault steps class from None a (Err why) → SeeksListsOf fault a steps class (Err why)
-failed_by a steps class from why (Some fault) h = err_as why h
-failed_by a steps class from why None (inl memory) = inl (err_as why memory)
-failed_by a steps class from why None (inr h) = inr (failed_from a steps class from why (boot_fault a.file a.conf) h)

@@ -348,7 +348,20 @@ pub(crate) fn seek_lists(
     };
     let lists = class_of(class);
     match seek_turns(
-        alloc, conf, file, numbers, turns, lists, &[], None, n, few, keys, watches, never, output,
+        alloc,
+        conf,
+        file,
+        numbers,
+        turns,
+        lists,
+        &[],
+        None,
+        n,
+        few,
+        keys,
+        watches,
+        never,
+        output,
     ) {
         Ok((told, events)) => Ok((told.found, events)),
         Err(answer) => Err(answer),

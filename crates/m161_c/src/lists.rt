@@ -65,7 +65,8 @@ impl<'a, 'b> Runs for ListRuns<'a, 'b> {
         let goal = task.goal;
         let policy = policy_of(&task.numbers, self.order(delays), goal.keys)?;
         let mut core = self.booted.copy_core(self.alloc)?;
-        m161_places::offers(&mut core, &policy, task.events, counts)
+        m161_places::offers(&mut core, &policy, task.events, counts)?;
+        Ok(())
     }
 
     fn start(&self) -> Result<(), AllocError> {
