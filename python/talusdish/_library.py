@@ -145,7 +145,7 @@ def _load() -> Any:
             u8, slot, c.c_char_p, size, point(OrderNumbers), point(ClassNumbers), u64, u32, c.c_char_p, size, point(WatchNumbers), size,
             point(u32), size, c.c_bool, c.c_char_p, size, point(SoughtList),
         ),
-        "delays_from": (
+        "slice": (
             u8, slot, c.c_char_p, size, point(OrderNumbers), point(ClassNumbers), point(ListNumbers), u64, u64, u32, c.c_char_p, size,
             point(WatchNumbers), size, point(u32), size, c.c_bool, c.c_char_p, size, point(SoughtSlice),
         ),

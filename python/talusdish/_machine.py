@@ -460,7 +460,7 @@ class Machine:
         verdict needs."""
         found, file = SoughtSlice(), self._image.file
         with _alone(self._lock):
-            answer = lib.talusdish_delays_from(self._slot, file, len(file), numbers, lists, first, count, events, hung, *goal, found)
+            answer = lib.talusdish_slice(self._slot, file, len(file), numbers, lists, first, count, events, hung, *goal, found)
             listed = b"" if answer else _bytes(self._slot)
         if answer in ORDERS:
             raise ORDERS[answer](ORDERS[answer].__doc__)

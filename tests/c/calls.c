@@ -543,11 +543,11 @@ static uint8_t delays(talusdish_slot *slot, const uint8_t *file, size_t size, co
 }
 
 static uint8_t delays_from(talusdish_slot *slot, const uint8_t *file, size_t size, const talusdish_order *order, talusdish_class lists,
-                           talusdish_list from, uint64_t most, uint64_t n, uint32_t few, const goal_of_run *goal, talusdish_slice *slice) {
+                           talusdish_list from, uint64_t most, uint64_t n, uint32_t few, const goal_of_run *goal, talusdish_sought_slice *slice) {
     const char *output = goal->output ? goal->output : "";
     uint8_t *keys = exact(goal->keys, strlen(goal->keys)), *sent = exact(output, strlen(output)), *own = exact(file, size);
     uint8_t *watches = exact(goal->watch, goal->watches * sizeof *goal->watch), *never = exact(goal->never, goal->nevers * sizeof *goal->never);
-    uint8_t answer = talusdish_delays_from(slot, own, size, order, &lists, &from, most, n, few, keys, strlen(goal->keys),
+    uint8_t answer = talusdish_slice(slot, own, size, order, &lists, &from, most, n, few, keys, strlen(goal->keys),
                                            (talusdish_watch *)(void *)watches, goal->watches, (uint32_t *)(void *)never, goal->nevers,
                                            goal->output != NULL, sent, strlen(output), slice);
     free(keys), free(sent), free(own), free(watches), free(never);
@@ -663,7 +663,7 @@ static void listed(void) {
 /* Slices, of which none is made. */
 static void unsliced(void) {
     talusdish_slot slot = {0};
-    talusdish_slice slice, same;
+    talusdish_sought_slice slice, same;
     memset(&slice, 0x5a, sizeof slice);
     memcpy(&same, &slice, sizeof slice);
     talusdish_order order = {TALUSDISH_RANDOM, 0, 0, 0, 0, 4, 0, false};
@@ -691,7 +691,7 @@ static void unsliced(void) {
 static void sliced_as(talusdish_slot *slot, const uint8_t *file, size_t size, const talusdish_order *order, talusdish_class lists, uint64_t most,
                       uint64_t n, uint32_t few, const goal_of_run *goal) {
     talusdish_sought_list whole;
-    talusdish_slice slice;
+    talusdish_sought_slice slice;
     memset(&slice, 0, sizeof slice);
     CHECK(delays(slot, file, size, order, lists, n, few, goal, &whole) == 0);
     size_t long_one;
@@ -719,7 +719,7 @@ static void sliced_as(talusdish_slot *slot, const uint8_t *file, size_t size, co
 
 static void sliced(void) {
     talusdish_slot slot = {0};
-    talusdish_slice slice;
+    talusdish_sought_slice slice;
     talusdish_order order = {TALUSDISH_TURNS, 50, 0, 0, 0, 4, 0, false};
     talusdish_size two = {65536, 2, 16, false, false};
     talusdish_class all = {2, 0, 16777216}, first = {3, 0, 9}, last = {2, 12, 16777216}, middle = {3, 12, 14}, none = {0, 0, 16777216};

@@ -139,7 +139,7 @@ pub extern "C" fn talusdish_delays(
 /// list to go on from. So slices that go on from each other, of at least one run each, find together what the
 /// whole does. Else the first of the numbers there, where 253 is also for a list of more than 64 delays.
 #[unsafe(no_mangle)]
-pub extern "C" fn talusdish_delays_from(
+pub extern "C" fn talusdish_slice(
     alloc: Global,
     slot: &mut Slot,
     file: &[u8],
