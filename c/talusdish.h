@@ -129,6 +129,19 @@ typedef struct {
     uint32_t delays[64]; /* these, the first `count` */
 } talusdish_sought_list;
 
+/* A list of delays: the choices at which a ready processor is passed over. */
+typedef struct {
+    uint32_t count;  /* how many there are: 0 to 64 */
+    uint32_t delays[64]; /* these, the first `count` */
+} talusdish_list;
+
+/* What a slice of such a search found, by talusdish_slice. */
+typedef struct {
+    talusdish_sought_list found; /* as of talusdish_delays, but `right` and `cut` of the slice's runs alone; they are no more than it may make */
+    bool goes_on;        /* none goes wrong, and lists are left */
+    talusdish_list next; /* the first of these, to go on from; empty where it doesn't go on */
+} talusdish_sought_slice;
+
 /* What an exploration found. */
 typedef struct {
     uint32_t kind;   /* TALUSDISH_CLEAN to TALUSDISH_OPEN */
@@ -194,7 +207,7 @@ enum {
     TALUSDISH_VERDICT_STUCK = 4,    /* nothing is left to do, and the console hasn't sent what is asked for, if anything is */
     TALUSDISH_VERDICT_OUTPUT = 5,   /* the machine is off, and the console hasn't sent what is asked for */
     TALUSDISH_VERDICT_END = 6,      /* output is asked for, the machine isn't off, and was never stuck; not of an exploration */
-    TALUSDISH_VERDICT_HUNG = 7      /* no order of events leads from here to an end; comes before END. Of talusdish_seeds, talusdish_delays and talusdish_hung alone:
+    TALUSDISH_VERDICT_HUNG = 7      /* no order of events leads from here to an end; comes before END. Of talusdish_seeds, talusdish_delays, talusdish_slice and talusdish_hung alone:
                                      * an exploration that finds such a list is TALUSDISH_HUNG, and has no verdict */
 };
 
@@ -331,11 +344,24 @@ uint8_t talusdish_seeds(talusdish_slot *slot, const uint8_t *file, size_t file_s
  * run goes wrong; where none does, no list of the class has a run that goes wrong. What goes wrong, what the session's bytes are, and what
  * is answered in which order is as of talusdish_seeds; but BAD, too, for another kind of order than TALUSDISH_TURNS and for more than 64
  * delays. There are about P runs of one delay and P * P / 2 of two, where a run has P choices: `within` and few events bound them. It takes
- * some 3 KB of stack for each delay of a list, beside about 100 KB. */
+ * some 3 KB of stack for each delay of a list, beside about 100 KB. It is one call, which can't be stopped: talusdish_slice makes a part of it. */
 uint8_t talusdish_delays(talusdish_slot *slot, const uint8_t *file, size_t file_size, const talusdish_order *order, const talusdish_class *lists,
                          uint64_t n, uint32_t hung, const uint8_t *keys, size_t keys_size, const talusdish_watch *watches, size_t watches_size,
                          const uint32_t *never, size_t never_size, bool asked, const uint8_t *output, size_t output_size,
                          talusdish_sought_list *found);
+
+/* A slice of the same, for a caller that isn't to be held up: the lists are those from `from` on, which is the empty list at first, and no
+ * more than `most` runs that go right are made, so it is at least 1. Where one goes wrong it is told as there; where lists are left,
+ * `goes_on` is true, and the next call takes `next` as its `from`, with all else the same. Call by call, the runs are those of one call, so
+ * that no list of the class has a run that goes wrong where no slice has one and the last doesn't go on; and the sums of `right` and `cut`
+ * are what that one tells. A `from` may be any list, whether in the class or not: those before it, in the order of the lists, are left out.
+ * Else the first answer of talusdish_delays that holds, where BAD is also for more than 64 delays in `from`. A slice makes, beside its
+ * runs, those of the lists that `from` begins with, to find its place. */
+uint8_t talusdish_slice(talusdish_slot *slot, const uint8_t *file, size_t file_size, const talusdish_order *order,
+                        const talusdish_class *lists, const talusdish_list *from, uint64_t most, uint64_t n, uint32_t hung,
+                        const uint8_t *keys, size_t keys_size, const talusdish_watch *watches, size_t watches_size,
+                        const uint32_t *never, size_t never_size, bool asked, const uint8_t *output, size_t output_size,
+                        talusdish_sought_slice *slice);
 
 /* Looks at every state that the machine can reach from its boot, whatever events it has made since, by any order of Steps, ends of
  * transfers and the `keys_size` keys in their order; as long as there are no more than `limit` states, which is at least 1. What goes

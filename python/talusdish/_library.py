@@ -66,6 +66,14 @@ class SoughtList(c.Structure):
     ]
 
 
+class ListNumbers(c.Structure):
+    _fields_ = [("count", c.c_uint32), ("delays", c.c_uint32 * 64)]
+
+
+class SoughtSlice(c.Structure):
+    _fields_ = [("found", SoughtList), ("goes_on", c.c_bool), ("next", ListNumbers)]
+
+
 class Exploration(c.Structure):
     _fields_ = [("kind", c.c_uint32), ("states", c.c_uint32), ("events", c.c_uint64), ("verdict", VerdictNumbers)]
 
@@ -136,6 +144,10 @@ def _load() -> Any:
         "delays": (
             u8, slot, c.c_char_p, size, point(OrderNumbers), point(ClassNumbers), u64, u32, c.c_char_p, size, point(WatchNumbers), size,
             point(u32), size, c.c_bool, c.c_char_p, size, point(SoughtList),
+        ),
+        "slice": (
+            u8, slot, c.c_char_p, size, point(OrderNumbers), point(ClassNumbers), point(ListNumbers), u64, u64, u32, c.c_char_p, size,
+            point(WatchNumbers), size, point(u32), size, c.c_bool, c.c_char_p, size, point(SoughtSlice),
         ),
         "symbol": (u8, c.c_char_p, size, c.c_char_p, size, point(u32)),
         "nearest": (u8, slot, c.c_char_p, size, u32, point(u32)),

@@ -13,8 +13,8 @@ from typing import Any, Callable, Iterable, Iterator, Optional, Sequence, Tuple,
 from ._errors import GOALS, KINDS, ORDERS, AssemblyError, BadProcessor, boot_error, refusal
 from ._library import (
     ALL_RIGHT, NO_MEMORY, NO_SYMBOL, RUN_OFF, RUN_STUCK, BoardView, ClassNumbers, ConflictView, EntryView, Exploration, Fault, Goal, JudgementNumbers,
-    OrderNumbers, OutcomeNumbers,
-    ProcessorView, RowWords, Size, Slot, Sought, SoughtList, Style, lib,
+    ListNumbers, OrderNumbers, OutcomeNumbers,
+    ProcessorView, RowWords, Size, Slot, Sought, SoughtSlice, Style, lib,
 )
 from ._judging import (
     AllRight, Clean, Event, Explored, Found, Hung, Judgement, Made, Open, Searched, Watch, WrongRun, events_of, goal_of, judgement_of, verdict_of,
@@ -454,12 +454,13 @@ class Machine:
         return found, listed
 
     def _seek_lists(
-        self, numbers: OrderNumbers, lists: ClassNumbers, events: int, hung: int, goal: Tuple[Any, ...]
-    ) -> Tuple[SoughtList, bytes]:
-        """A search by these lists of delays from the boot, and the numbers of the events that its verdict needs."""
-        found, file = SoughtList(), self._image.file
+        self, numbers: OrderNumbers, lists: ClassNumbers, first: ListNumbers, count: int, events: int, hung: int, goal: Tuple[Any, ...]
+    ) -> Tuple[SoughtSlice, bytes]:
+        """A slice of a search by these lists of delays from the boot, from the first one on, and the numbers of the events that its
+        verdict needs."""
+        found, file = SoughtSlice(), self._image.file
         with _alone(self._lock):
-            answer = lib.talusdish_delays(self._slot, file, len(file), numbers, lists, events, hung, *goal, found)
+            answer = lib.talusdish_slice(self._slot, file, len(file), numbers, lists, first, count, events, hung, *goal, found)
             listed = b"" if answer else _bytes(self._slot)
         if answer in ORDERS:
             raise ORDERS[answer](ORDERS[answer].__doc__)
@@ -557,17 +558,24 @@ def explore(
 
 
 def _search_delays(
-    machine: Machine, lists: Delays, numbers: OrderNumbers, events: int, hung: int, goal: Tuple[Any, ...], keys: bytes
+    machine: Machine, lists: Delays, numbers: OrderNumbers, events: int, hung: int, goal: Tuple[Any, ...], keys: bytes,
+    progress: Optional[Callable[[int], object]], at_once: int,
 ) -> Searched:
     if not 0 <= lists.most <= 64:
         raise ValueError(f"most is {lists.most}; it is 0 to 64")
-    found, listed = machine._seek_lists(
-        numbers, ClassNumbers(lists.most, within("first", lists.first), within("within", lists.within)), events, hung, goal
-    )
-    if not found.verdict.kind:
-        return AllRight(found.right, found.cut)
-    order = Delayed(lists.steps, tuple(found.delays[: found.count]))
-    return WrongRun(order, verdict_of(found.verdict), events_of(listed, len(machine.processors), keys), found.right, found.cut)
+    group = ClassNumbers(lists.most, within("first", lists.first), within("within", lists.within))
+    first, done, cut = ListNumbers(), 0, 0
+    while True:
+        slice_, listed = machine._seek_lists(numbers, group, first, min(at_once, 2**64 - 1), events, hung, goal)
+        found, first = slice_.found, slice_.next
+        if found.verdict.kind:
+            order = Delayed(lists.steps, tuple(found.delays[: found.count]))
+            return WrongRun(order, verdict_of(found.verdict), events_of(listed, len(machine.processors), keys), found.right, found.cut)
+        done, cut = done + found.right, cut + found.cut
+        if progress:
+            progress(done)
+        if not slice_.goes_on:
+            return AllRight(done, cut)
 
 
 def search(
@@ -580,9 +588,8 @@ def search(
     events. What goes wrong is what `Machine.judge` says; a run that ends only because no more events were asked for hangs where no order
     of events leads to an end any more, if those that there are lead to at most `hung` different states; 0 looks at none.
 
-    With `Delays(2)` in place of an order they are all runs by turns in which at most twice a ready processor is passed over, and `runs`,
-    `progress` and `at_once` have no meaning: the search is one call. `AllRight(277, 0)` says then that each of 277 different runs is right;
-    a `WrongRun` has a `Delayed` as its order.
+    With `Delays(2)` in place of an order they are all runs by turns in which at most twice a ready processor is passed over, and `runs` has
+    no meaning. `AllRight(277, 0)` says then that each of 277 different runs is right; a `WrongRun` has a `Delayed` as its order.
 
     The runs are made in this thread, `at_once` of them a call of the library. Behind each call in which none goes wrong, `progress` is
     called with how many runs there were so far; what it raises ends the search, and so does Ctrl-C.
@@ -590,12 +597,12 @@ def search(
     Raises NoTurn, NoStretch or TooManyChanges, a BootError, BadWatch, MemoryError, or ValueError for a number outside its limits."""
     machine = Machine(image, ram, cpus, 1, line, strict)
     goal, most, looked = goal_of(keys, watches, never, output), within("events", events, 64), within("hung", hung)
-    if isinstance(order, Delays):
-        return _search_delays(machine, order, numbers_of(Turns(order.steps), transfer, gap), most, looked, goal, keys)
-    numbers = numbers_of(order, transfer, gap)
-    first = numbers.seed
     if at_once < 1:
         raise ValueError(f"at_once is {at_once}; it is at least 1")
+    if isinstance(order, Delays):
+        return _search_delays(machine, order, numbers_of(Turns(order.steps), transfer, gap), most, looked, goal, keys, progress, at_once)
+    numbers = numbers_of(order, transfer, gap)
+    first = numbers.seed
     done = cut = 0
     while True:
         numbers.seed = (first + done) % 2**64

@@ -139,6 +139,25 @@ class Searching(unittest.TestCase):
             self.small("lost-update-fixed", progress={}.__getitem__)
         self.assertEqual(search(assemble(SUM), runs=0, ram=65536), AllRight(0, 0))
 
+    def test_slices_of_delays(self):
+        told = []
+        self.assertEqual(self.small("lost-update-fixed", order=Delays(2), progress=told.append), AllRight(277, 0))
+        self.assertEqual(told, [100, 200, 277])
+        told = []
+        self.assertEqual(self.small("lost-update-fixed", order=Delays(2, within=30), progress=told.append, at_once=221), AllRight(221, 0))
+        self.assertEqual(told, [221])
+        cut = self.small("two-locks", order=Delays(1), hung=0)
+        for kernel, lists in (("lost-update", Delays(2)), ("lost-update", Delays(3, 7, 5)), ("two-locks", Delays(2))):
+            whole = self.small(kernel, order=lists, at_once=2**64)
+            for at_once in (1, 3, 12, 13):
+                with self.subTest((kernel, lists, at_once)):
+                    told = []
+                    self.assertEqual(self.small(kernel, order=lists, progress=told.append, at_once=at_once), whole)
+                    self.assertEqual(told, list(range(at_once, at_once * (len(told) + 1), at_once)))
+                    self.assertEqual(self.small("two-locks", order=Delays(1), hung=0, at_once=at_once), cut)
+        with self.assertRaises(KeyError):
+            self.small("lost-update-fixed", order=Delays(1), progress={}.__getitem__)
+
     def test_keys_and_transfers(self):
         found = search(assemble(POLL), Turns(1), 1, 99, ram=4096, keys=b"k", gap=3, never=[0x80000214])
         self.assertEqual((found.order, found.verdict.wrong, found.events[3]), (Turns(1), Wrong.REACHED, (Event.KEY, ord("k"))))
@@ -149,6 +168,7 @@ class Searching(unittest.TestCase):
         for wrong, options in (
             (talusdish.NoTurn, {"order": Turns(0)}), (talusdish.NoStretch, {"order": Priorities(0, 1, 0)}),
             (talusdish.BadWatch, {"watches": [Watch(0, 0, 4, 4)]}), (talusdish.BadConf, {"ram": 5}), (ValueError, {"at_once": 0}),
+            (ValueError, {"order": Delays(1), "at_once": 0}),
             (ValueError, {"runs": -1}), (ValueError, {"order": Delays(65)}), (talusdish.NoTurn, {"order": Delays(1, 0)}), (ValueError, {"hung": 2**32}), (ValueError, {"events": -1}),
         ):
             with self.subTest(wrong), self.assertRaises(wrong):

@@ -542,6 +542,18 @@ static uint8_t delays(talusdish_slot *slot, const uint8_t *file, size_t size, co
     return answer;
 }
 
+static uint8_t delays_from(talusdish_slot *slot, const uint8_t *file, size_t size, const talusdish_order *order, talusdish_class lists,
+                           talusdish_list from, uint64_t most, uint64_t n, uint32_t few, const goal_of_run *goal, talusdish_sought_slice *slice) {
+    const char *output = goal->output ? goal->output : "";
+    uint8_t *keys = exact(goal->keys, strlen(goal->keys)), *sent = exact(output, strlen(output)), *own = exact(file, size);
+    uint8_t *watches = exact(goal->watch, goal->watches * sizeof *goal->watch), *never = exact(goal->never, goal->nevers * sizeof *goal->never);
+    uint8_t answer = talusdish_slice(slot, own, size, order, &lists, &from, most, n, few, keys, strlen(goal->keys),
+                                           (talusdish_watch *)(void *)watches, goal->watches, (uint32_t *)(void *)never, goal->nevers,
+                                           goal->output != NULL, sent, strlen(output), slice);
+    free(keys), free(sent), free(own), free(watches), free(never);
+    return answer;
+}
+
 /* The session's bytes are an ELF file: it is booted, and stays in the buffer. */
 static uint8_t *boot_kept(talusdish_slot *slot, const char *text, talusdish_size conf, size_t *size) {
     talusdish_fault fault;
@@ -644,6 +656,97 @@ static void listed(void) {
     goal.output = "x";
     CHECK(delays(&slot, file, size, &order, all, 9, 1, &goal, &found) == 0 && found.verdict.kind == TALUSDISH_VERDICT_END && found.events == 9);
     CHECK(found.count == 0 && has_events(&slot, "000000000"));
+    free(file);
+    talusdish_close(&slot);
+}
+
+/* Slices, of which none is made. */
+static void unsliced(void) {
+    talusdish_slot slot = {0};
+    talusdish_sought_slice slice, same;
+    memset(&slice, 0x5a, sizeof slice);
+    memcpy(&same, &slice, sizeof slice);
+    talusdish_order order = {TALUSDISH_RANDOM, 0, 0, 0, 0, 4, 0, false};
+    talusdish_class many = {65, 0, 9}, lists = {64, 0, 9};
+    talusdish_list none = {0, {0}}, long_one = {65, {0}};
+    goal_of_run goal = {"", NULL, {{64, 0, 0, 4}}, 1, {0, 0}, 0};
+    size_t size;
+    CHECK(delays_from(&slot, NULL, 0, &order, lists, none, 9, 9, 9, &goal, &slice) == TALUSDISH_NOTHING);
+    CHECK(talusdish_open(&slot) && delays_from(&slot, NULL, 0, &order, lists, none, 9, 9, 9, &goal, &slice) == TALUSDISH_NOTHING);
+    uint8_t *file = boot_kept(&slot, sum, small, &size);
+    CHECK(delays_from(&slot, file, 51, &order, lists, none, 9, 9, 9, &goal, &slice) == TALUSDISH_BAD);
+    order.kind = TALUSDISH_TURNS;
+    CHECK(delays_from(&slot, file, 51, &order, many, none, 9, 9, 9, &goal, &slice) == TALUSDISH_BAD);
+    CHECK(delays_from(&slot, file, 51, &order, lists, long_one, 9, 9, 9, &goal, &slice) == TALUSDISH_BAD);
+    CHECK(delays_from(&slot, file, 51, &order, lists, none, 9, 9, 9, &goal, &slice) == TALUSDISH_NO_TURN);
+    order.turns = 1;
+    CHECK(delays_from(&slot, file, 51, &order, lists, none, 9, 9, 9, &goal, &slice) == 2);
+    CHECK(delays_from(&slot, file, size, &order, lists, none, 9, 9, 9, &goal, &slice) == TALUSDISH_BAD_WATCH);
+    CHECK(memcmp(&slice, &same, sizeof slice) == 0 && talusdish_length(&slot) == size);
+    free(file);
+    talusdish_close(&slot);
+}
+
+/* Slices of so many runs, one behind the other, find what one call does, and the list is always a later one. */
+static void sliced_as(talusdish_slot *slot, const uint8_t *file, size_t size, const talusdish_order *order, talusdish_class lists, uint64_t most,
+                      uint64_t n, uint32_t few, const goal_of_run *goal) {
+    talusdish_sought_list whole;
+    talusdish_sought_slice slice;
+    memset(&slice, 0, sizeof slice);
+    CHECK(delays(slot, file, size, order, lists, n, few, goal, &whole) == 0);
+    size_t long_one;
+    uint8_t *wanted = bytes_of(slot, &long_one);
+    uint64_t right = 0, cut = 0;
+    do {
+        talusdish_list from = slice.next;
+        CHECK(delays_from(slot, file, size, order, lists, from, most, n, few, goal, &slice) == 0);
+        right += slice.found.right, cut += slice.found.cut;
+        if (slice.goes_on) {
+            const talusdish_list *next = &slice.next;
+            int differs = memcmp(from.delays, next->delays, sizeof from.delays);
+            CHECK(slice.found.right == most && slice.found.verdict.kind == TALUSDISH_VERDICT_NONE && has_events(slot, ""));
+            CHECK(next->count > from.count || (next->count == from.count && differs != 0));
+        }
+    } while (slice.goes_on);
+    CHECK(slice.next.count == 0 && memcmp(&slice.found.verdict, &whole.verdict, sizeof whole.verdict) == 0);
+    CHECK(slice.found.count == whole.count && memcmp(slice.found.delays, whole.delays, sizeof whole.delays) == 0 && slice.found.events == whole.events);
+    CHECK(whole.verdict.kind != TALUSDISH_VERDICT_NONE || (right == whole.right && cut == whole.cut));
+    size_t long_too;
+    uint8_t *had = bytes_of(slot, &long_too);
+    CHECK(long_one == long_too && memcmp(wanted, had, long_one) == 0);
+    free(wanted), free(had);
+}
+
+static void sliced(void) {
+    talusdish_slot slot = {0};
+    talusdish_sought_slice slice;
+    talusdish_order order = {TALUSDISH_TURNS, 50, 0, 0, 0, 4, 0, false};
+    talusdish_size two = {65536, 2, 16, false, false};
+    talusdish_class all = {2, 0, 16777216}, first = {3, 0, 9}, last = {2, 12, 16777216}, middle = {3, 12, 14}, none = {0, 0, 16777216};
+    goal_of_run goal = {"", NULL, {{0, 0, 0, 0}}, 0, {0, 0}, 0};
+    talusdish_list empty = {0, {0}}, behind = {1, {12}}, other = {2, {13, 2}};
+    size_t size;
+    CHECK(talusdish_open(&slot));
+    uint8_t *file = boot_kept(&slot, race, two, &size);
+    for (uint64_t most = 1; most < 7; most++) {
+        sliced_as(&slot, file, size, &order, all, most, 10000, 9999, &goal);
+        sliced_as(&slot, file, size, &order, first, most, 10000, 9999, &goal);
+        sliced_as(&slot, file, size, &order, last, most, 10000, 9999, &goal);
+        sliced_as(&slot, file, size, &order, middle, most, 10000, 9999, &goal);
+        sliced_as(&slot, file, size, &order, none, most, 10000, 9999, &goal);
+    }
+    sliced_as(&slot, file, size, &order, all, 5, 30, 0, &goal);
+    /* no run, and the first list; the four lists of no number and of one number below 9, and no more */
+    CHECK(delays_from(&slot, file, size, &order, first, empty, 0, 10000, 9999, &goal, &slice) == 0 && slice.goes_on);
+    CHECK(slice.next.count == 0 && slice.found.right == 0);
+    CHECK(delays_from(&slot, file, size, &order, first, empty, UINT64_MAX, 10000, 9999, &goal, &slice) == 0 && !slice.goes_on);
+    CHECK(slice.found.right == 4 && slice.found.cut == 0);
+    /* from a list on, in the class or not, the first that goes wrong */
+    CHECK(delays_from(&slot, file, size, &order, all, behind, 1, 10000, 9999, &goal, &slice) == 0 && slice.found.verdict.kind == TALUSDISH_VERDICT_STUCK);
+    CHECK(slice.found.count == 1 && slice.found.delays[0] == 12 && has_events(&slot, "000000000000111111111111110000000000000"));
+    CHECK(delays_from(&slot, file, size, &order, none, behind, 1, 10000, 9999, &goal, &slice) == 0 && !slice.goes_on && slice.found.right == 0);
+    CHECK(delays_from(&slot, file, size, &order, all, other, 0, 10000, 9999, &goal, &slice) == 0 && slice.goes_on);
+    CHECK(slice.next.count == 2 && slice.next.delays[0] >= 13);
     free(file);
     talusdish_close(&slot);
 }
@@ -978,6 +1081,8 @@ int main(void) {
     unsought();
     unlisted();
     listed();
+    unsliced();
+    sliced();
     hangs();
     seeks();
     links_and_conflicts();

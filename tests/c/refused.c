@@ -148,6 +148,12 @@ static uint64_t whole(long at) {
     AGAIN(254, talusdish_delays(&slot, file, size, &order, &lists, 99, 50, (const uint8_t *)"", 0, &watch, 1, &never, 1, true, (const uint8_t *)"x", 1, &list));
     note(list.verdict.kind);
     note(list.events);
+    talusdish_sought_slice slice;
+    memset(&slice, 0, sizeof slice);
+    talusdish_list from = {1, {1}};
+    AGAIN(254, talusdish_slice(&slot, file, size, &order, &lists, &from, 1, 5, 2, (const uint8_t *)"", 0, &watch, 1, &never, 1, false, (const uint8_t *)"", 0, &slice));
+    note(slice.found.right);
+    note(slice.goes_on);
     talusdish_slot copy = {0};
     AGAIN(254, talusdish_copy(&slot, &copy));
     note(seen(&copy) == seen(&slot));

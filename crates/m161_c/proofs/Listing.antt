@@ -1,37 +1,40 @@
-use Rattle.std.proofs.Common.{◌≡◌, ◌⊎◌, inl, inr, ap, sym, subst, ℕ, ◌<◌, ◌≤◌, Bool, List, [], ◌∷◌, length, arith}
-use Rattle.std.specs.Prelude.{Option, None, Some, slice_get}
+use Rattle.std.proofs.Common.{◌≡◌, ◌⊎◌, inl, inr, ap, refl, sym, subst, ℕ, ◌<◌, ◌≤◌, Bool, List, [], ◌∷◌, length, arith}
+use Rattle.std.specs.Prelude.{Option, None, Some, Result, Ok, Err, slice_get}
 use Rattle.m161_delays.specs.declared.search.Class.{Class}
+use Rattle.m161_delays.specs.declared.search.Searched.{Searched}
+use Rattle.m161_delays.specs.declared.slice.Slice.{Slice}
 use Rattle.m161_delays.specs.Lists.{ComesBefore, IsAscendingFrom, IsOf}
-use Rattle.m161_delays.specs.Runs.{ChooseAlike, IsUsefulOf}
-use Rattle.m161_delays.specs.helpers.Walking.{IsBehind}
-use Rattle.m161_delays.specs.Search.{AreClean, IsFirst}
+use Rattle.m161_delays.specs.Runs.{IsUsefulOf}
+use Rattle.m161_delays.specs.Search.{AreClean, Finds, IsFirst}
+use Rattle.m161_delays.specs.Slices.{IsSlice}
 use Rattle.m161_delays.proofs.Counting.{right_among}
+use Rattle.m161_delays.proofs.Implying.{finds_as, slice_as}
 use Rattle.m161_delays.proofs.Members.{below_part, from_part}
-use Rattle.m161_delays.proofs.Walking.{walks_itself}
 use Rattle.m161_drive.specs.Choice.{cursor_at}
-use Rattle.m161_machine.specs.History.{IsBootState}
+use Rattle.m161_judge.specs.declared.run.JudgedRun.{JudgedRun}
+use Rattle.m161_machine.specs.declared.conf.BootError.{BootError}
+use Rattle.m161_machine.specs.History.{IsBootState, boot_fault}
 use Rattle.m161_machine.specs.State.{State}
 use Rattle.m161_order.specs.declared.delays.Delays.{Delays}
 use Rattle.m161_order.specs.declared.order.Order.TheVariants.{Turns, Delayed}
+use Rattle.m161_order.specs.declared.order.OrderError.{OrderError}
 use Rattle.m161_order.specs.Delays.{delays_of}
 use Rattle.m161_places.specs.Laws.{IsEffective}
-use Rattle.m161_places.proofs.Alike.{choose_alike}
 use Rattle.m161_places.proofs.Effective.{have_effective_part}
 use Rattle.m161_places.proofs.Moving.{run_of_part}
-use Rattle.m161_c.specs.declared.lists.ListSums.{ListSums}
-use Rattle.m161_c.specs.declared.lists.WrongList.{WrongList}
-use Rattle.m161_c.specs.Delays.{HasRightRun, offered_by}
+use Rattle.m161_states.specs.Question.{Question}
+use Rattle.m161_c.specs.declared.answer.SoughtSlice.{SoughtSlice}
+use Rattle.m161_c.specs.declared.seeds.WrongRun.{WrongRun}
+use Rattle.m161_c.specs.declared.told.Told.{Told}
+use Rattle.m161_c.specs.Delays.{HasRightRun, HasWrongRun, IsListedBy, SeeksListsOf, offered_by}
 use Rattle.m161_c.specs.Driven.{rules_in}
-use Rattle.m161_c.specs.Seeds.{Asked, IsRightBy}
-use Rattle.m161_c.specs.helpers.Listing.{HasWrongRun, WalksLists}
-use Rattle.m161_c.proofs.Telling.{booted_as_one}
+use Rattle.m161_c.specs.Seeds.{Asked, IsRightBy, IsToldRun, SeeksBooted}
+use Rattle.m161_c.specs.helpers.Listing.{IsLookedBy, IsRightFrom, IsWrongFrom, LooksBy}
+use Rattle.m161_c.specs.helpers.Seeking.{Begins}
+use Rattle.m161_c.specs.Slices.{IsSlicedBy, TellsStop}
+use Rattle.m161_c.proofs.Telling.{begun, booted_as_one}
 
 -- Every list of a class has the run of a useful one.
-
-pub offers_alike : (a : Asked) (steps : ℕ) (s : State) → ChooseAlike (offered_by a steps s)
-offers_alike a steps s =
-    choose_alike a.events (rules_in a.numbers (Turns steps) a.goal.keys) (slice_get a.goal.keys) (record { steps = steps; made = 0 })
-    (cursor_at (rules_in a.numbers (Turns steps) a.goal.keys) s) s
 
 -- the delays of a list that have an effect
 abbrev Effective : Asked → ℕ → State → List ℕ → List ℕ → Type 0
@@ -129,12 +132,37 @@ right_before a steps s class wrong first what boots found others of order =
     found.before part useful
     (before_part (delays_of others) part first (h.is_same_or_shorter (ascending_any class.from (delays_of others) of.ascending)) order))
 
--- a list goes on behind itself by no number
-pub walks_list : (a : Asked) (steps : ℕ) (class : Class) (offers : List ℕ → List ℕ) (ns : List ℕ) (more : ℕ) (s t : ListSums) (o : Option WrongList) → more ≡ 0 →
-    IsUsefulOf class offers ns → WalksLists a steps (λ z. z ≡ ns) s t o → WalksLists a steps (IsBehind class offers ns more) s t o
-walks_list a steps class offers ns more s t None none useful h =
-    walks_itself class offers (HasRightRun a steps) (HasWrongRun a steps) ns more (record { runs = s.runs; cut = s.cut }) (record { runs = t.runs; cut = t.cut }) None
-    none useful h
-walks_list a steps class offers ns more s t (Some found) none useful h =
-    walks_itself class offers (HasRightRun a steps) (HasWrongRun a steps) ns more (record { runs = s.runs; cut = s.cut }) (record { runs = t.runs; cut = t.cut })
-    (Some (record { delays = found.delays; wrong = found.wrong })) none useful h
+-- what was found, from the state at boot on
+pub finds_from : (a : Asked) (s : State) (q : Question) (steps : ℕ) (class : Class) (found : Searched WrongRun) → Begins a s q →
+    Finds class (offered_by a steps s) (IsRightFrom a s q steps) (IsWrongFrom a s q steps) found →
+    Finds class (offered_by a steps s) (HasRightRun a steps) (HasWrongRun a steps) found
+finds_from a s q steps class found begins h =
+    finds_as class (offered_by a steps s) (IsRightFrom a s q steps) (HasRightRun a steps) (IsWrongFrom a s q steps) (HasWrongRun a steps) found
+    (λ x b right. right begins) (λ x w wrong. wrong begins) h
+
+pub slice_from : (a : Asked) (s : State) (q : Question) (steps : ℕ) (class : Class) (from : List ℕ) (most : ℕ) (slice : Slice WrongRun) → Begins a s q →
+    IsSlice class (offered_by a steps s) (IsRightFrom a s q steps) (IsWrongFrom a s q steps) from most slice →
+    IsSlice class (offered_by a steps s) (HasRightRun a steps) (HasWrongRun a steps) from most slice
+slice_from a s q steps class from most slice begins h =
+    slice_as class (offered_by a steps s) (IsRightFrom a s q steps) (HasRightRun a steps) (IsWrongFrom a s q steps) (HasWrongRun a steps) from most slice
+    (λ x b right. right begins) (λ x w wrong. wrong begins) h
+
+pub sliced_by : (a : Asked) (s : State) (q : Question) (steps : ℕ) (class : Class) (from : List ℕ) (most : ℕ) (slice : Slice WrongRun) (told : SoughtSlice)
+    (events : List ℕ) → Begins a s q → IsSlice class (offered_by a steps s) (IsRightFrom a s q steps) (IsWrongFrom a s q steps) from most slice →
+    TellsStop a slice.runs slice.cut slice.stop told events → IsSlicedBy a steps class from most told events
+sliced_by a s q steps class from most slice told events begins h tells = record {
+  booted = s;
+  is_booted = begun a.file a.conf s begins.boots;
+  slice = slice;
+  is_slice = slice_from a s q steps class from most slice begins h;
+  is_told = tells;
+}
+
+-- what came of one run
+pub list_right : (a : Asked) (s : State) (q : Question) (steps : ℕ) (delays : Delays) (run : JudgedRun) (told : Option Told) → told ≡ None →
+    (Begins a s q → IsToldRun a (Delayed steps delays) run told) → IsRightFrom a s q steps (delays_of delays) run.is_cut
+list_right a s q steps delays run told is h = λ begins. (delays, refl, (run, subst (IsToldRun a (Delayed steps delays) run) is (h begins), refl))
+
+pub list_wrong : (a : Asked) (s : State) (q : Question) (steps : ℕ) (delays : Delays) (run : JudgedRun) (told : Option Told) (what : Told) → told ≡ Some what →
+    (Begins a s q → IsToldRun a (Delayed steps delays) run told) → IsWrongFrom a s q steps (delays_of delays) (record { run = run; told = what })
+list_wrong a s q steps delays run told what is h = λ begins. (delays, refl, subst (IsToldRun a (Delayed steps delays) run) is (h begins))

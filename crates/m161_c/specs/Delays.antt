@@ -17,6 +17,7 @@ use Rattle.m161_places.specs.Laws.{offered}
 use Rattle.m161_c.specs.declared.answer.ClassNumbers.{ClassNumbers}
 use Rattle.m161_c.specs.declared.answer.OrderNumbers.{OrderNumbers}
 use Rattle.m161_c.specs.declared.answer.SoughtList.{SoughtList}
+use Rattle.m161_c.specs.declared.seeds.WrongRun.{WrongRun}
 use Rattle.m161_c.specs.declared.session.Session.{Session}
 use Rattle.m161_c.specs.declared.told.Told.{Told}
 use Rattle.m161_c.specs.Driven.{rules_in}
@@ -39,6 +40,11 @@ offered_by a steps booted =
 abbrev pub HasRightRun : Asked → ℕ → List ℕ → Bool → Type 0
 HasRightRun a steps numbers is_cut =
     (delays : Delays) × (delays_of delays ≡ numbers) × IsRightBy a (Delayed steps delays) is_cut
+
+-- the run of a list has this verdict
+abbrev pub HasWrongRun : Asked → ℕ → List ℕ → WrongRun → Type 0
+HasWrongRun a steps numbers wrong =
+    (delays : Delays) × (delays_of delays ≡ numbers) × IsToldRun a (Delayed steps delays) wrong.run (Some wrong.told)
 
 -- no list of a class has a run that goes wrong; its useful lists have different runs, so many of which so many are cut,
 -- as far as 64 bits can say it

@@ -1,6 +1,7 @@
 -- Definitions that only contracts of private functions, or proofs, use.
 pub mod Explored
 pub mod Listing
+pub mod Offers
 pub mod Seeking
 pub mod Telling
 pub mod Turns

@@ -1,28 +1,35 @@
 //! Searches over lists of delays, and what is told of them.
 
-ghost use Rattle.std.specs.Prelude.{◌≡◌, ◌≤◌, ℕ, Err, IfErr, IfOk, IfSome, None, Ok, take};
+ghost use Rattle.std.specs.Prelude.{◌≡◌, ◌≤◌, ℕ, [], true, false, Err, IfErr, IfOk, IfSome, MatchOption, None, Ok, Some, take};
 ghost use Rattle.m161_delays.specs.declared.search.Class.{Class as ClassValue};
+ghost use Rattle.m161_delays.specs.Search.{Finds};
 ghost use Rattle.m161_judge.specs.Judge.{bytes_of};
+ghost use Rattle.m161_order.specs.declared.order.Order.TheVariants.{Turns};
 ghost use Rattle.m161_order.specs.Delays.{delays_of};
+ghost use Rattle.m161_order.specs.Order.{order_fault};
 ghost use Rattle.m161_machine.specs.State.{State};
-ghost use Rattle.m161_c.specs.Delays.{IsListedBy, SeeksListsAs, SeeksListsIn, SeeksListsOf, class_in, steps_in};
+ghost use Rattle.m161_c.specs.Delays.{HasRightRun, HasWrongRun, IsListedBy, SeeksListsAs, SeeksListsIn, class_in, offered_by, steps_in};
 ghost use Rattle.m161_c.specs.Explored.{criteria_of};
 ghost use Rattle.m161_c.specs.Seeds.{SeeksFrom, asked_with};
-ghost use Rattle.m161_c.specs.helpers.Listing.{FindsList};
+ghost use Rattle.m161_c.specs.Slices.{SeeksSlicesAs, SeeksSlicesIn, TellsRight, TellsStop, TellsWrong, list_in};
+ghost use Rattle.m161_c.specs.helpers.Listing.{IsLookedBy, LooksBy};
+ghost use Rattle.m161_c.specs.helpers.Seeking.{Begins};
 ghost use Rattle.m161_c.specs.helpers.Telling.{BeginsAt};
 
-use crate::answer::{ClassNumbers, OrderNumbers, SoughtList, WatchNumbers};
+use crate::answer::{
+    ClassNumbers, ListNumbers, OrderNumbers, SoughtList, SoughtSlice, WatchNumbers,
+};
 use crate::driven::order_number;
 use crate::explored::watches_of;
 use crate::judged::audit_number;
-use crate::lists::{Listed, WrongList, search_lists};
+use crate::lists::ListRuns;
 use crate::seeds::{Task, WrongRun, event_bytes};
 use crate::session::Session;
 use crate::told::{asked_core, ends_of};
 use crate::verdict::{NONE, search_verdict};
 use crate::{BAD, NO_MEMORY, NOTHING};
 use m161::{Conf, Console, Tlb};
-use m161_delays::{Class, Delays};
+use m161_delays::{Class, Delays, Searched, Slice, Stop, search_alone, search_slice};
 use m161_drive::Order;
 use m161_judge::{Booted, Goal};
 use m161_reach::Machines;
@@ -30,53 +37,140 @@ use m161_states::Known;
 use std::alloc::{AllocError, Global};
 
 // The numbers of a list, and zeros behind them.
-fn numbers_of(delays: &Delays) -> ([u32; 64], u32)
-    ensures { take result.1 result.0 ≡ delays_of delays.now }
+fn numbers_of(delays: &Delays) -> ListNumbers
+    ensures { take result.count result.delays ≡ delays_of delays.now }
 {
     let list = delays.as_slice();
-    let mut numbers = [0; 64];
-    numbers[..list.len()].copy_from_slice(list);
-    (numbers, list.len() as u32)
+    let mut delays = [0; 64];
+    delays[..list.len()].copy_from_slice(list);
+    ListNumbers {
+        count: list.len() as u32,
+        delays,
+    }
 }
 
-// Tells what came of the runs.
-fn tell_listed(
+// What is told of so many runs without a verdict.
+fn right_told(right: u64, cut: u64) -> SoughtList
+    ensures { TellsRight right cut result [] }
+{
+    SoughtList {
+        verdict: NONE,
+        right,
+        cut,
+        events: 0,
+        count: 0,
+        delays: [0; 64],
+    }
+}
+
+// What is told of a list whose run has a verdict.
+fn wrong_told(
     alloc: Global,
     task: &Task<'_, '_>,
-    listed: Listed,
+    delays: &Delays,
+    wrong: WrongRun,
 ) -> Result<(SoughtList, Vec<u8>), AllocError>
-    ensures { (steps : ℕ) (class : ClassValue) (booted : State) → BeginsAt task.now.file task.now.conf booted
-        → FindsList task.now steps class booted listed
-        → IfOk result (λ told. IsListedBy task.now steps class told.0 told.1.items) }
+    ensures { IfOk result (λ told. TellsWrong task.now (delays_of delays.now) wrong told.0 told.1.items) }
 {
-    let Listed { sums, wrong } = listed;
-    let Some(WrongList { delays, wrong }) = wrong else {
-        return Ok((
-            SoughtList {
-                verdict: NONE,
-                right: sums.runs,
-                cut: sums.cut,
-                events: 0,
-                count: 0,
-                delays: [0; 64],
-            },
-            Vec::new(alloc),
-        ));
-    };
     let WrongRun { run, told } = wrong;
     let mut events = run.events;
     events.truncate(told.events);
     let bytes = event_bytes(alloc, task.conf.processors, &events)?;
-    let (numbers, count) = numbers_of(&delays);
+    let ListNumbers { count, delays } = numbers_of(delays);
     let found = SoughtList {
         verdict: search_verdict(told.verdict),
         right: 0,
         cut: 0,
         events: told.events as u64,
         count,
-        delays: numbers,
+        delays,
     };
     Ok((found, bytes))
+}
+
+// What is told where no list is left.
+fn last_told(found: SoughtList) -> SoughtSlice
+    ensures found { result.found ≡ found }
+    ensures over { (result.goes_on ≡ false) × (result.next.count ≡ 0) }
+{
+    SoughtSlice {
+        found,
+        goes_on: false,
+        next: numbers_of(&Delays::none()),
+    }
+}
+
+// Tells what came of the whole search.
+fn tell_whole(
+    alloc: Global,
+    task: &Task<'_, '_>,
+    found: Searched<WrongRun>,
+) -> Result<(SoughtSlice, Vec<u8>), AllocError>
+    ensures { (steps : ℕ) (class : ClassValue) (booted : State) → BeginsAt task.now.file task.now.conf booted
+        → Finds class (offered_by task.now steps booted) (HasRightRun task.now steps) (HasWrongRun task.now steps) found
+        → IfOk result (λ told. IsListedBy task.now steps class told.0.found told.1.items) }
+{
+    match found {
+        Searched::Clean { runs, cut } => Ok((last_told(right_told(runs, cut)), Vec::new(alloc))),
+        Searched::Wrong { delays, wrong } => {
+            let (found, events) = wrong_told(alloc, task, &delays, wrong)?;
+            Ok((last_told(found), events))
+        }
+    }
+}
+
+// Tells what came of a slice.
+fn tell_slice(
+    alloc: Global,
+    task: &Task<'_, '_>,
+    slice: Slice<WrongRun>,
+) -> Result<(SoughtSlice, Vec<u8>), AllocError>
+    ensures { IfOk result (λ told. TellsStop task.now slice.runs slice.cut slice.stop told.0 told.1.items) }
+{
+    let Slice { runs, cut, stop } = slice;
+    match stop {
+        None => Ok((last_told(right_told(runs, cut)), Vec::new(alloc))),
+        Some(Stop::Wrong { delays, wrong }) => {
+            let (found, events) = wrong_told(alloc, task, &delays, wrong)?;
+            Ok((last_told(found), events))
+        }
+        Some(Stop::Next { delays }) => {
+            let told = SoughtSlice {
+                found: right_told(runs, cut),
+                goes_on: true,
+                next: numbers_of(&delays),
+            };
+            Ok((told, Vec::new(alloc)))
+        }
+    }
+}
+
+// Makes the runs of the whole search, or of a slice of so many from a list on, and tells what came of them.
+fn look(
+    alloc: Global,
+    booted: &Booted<Tlb, Console>,
+    ends: &Machines<'_, Tlb, Console>,
+    task: &Task<'_, '_>,
+    turns: u32,
+    class: Class,
+    from: &[u32],
+    limit: Option<u64>,
+) -> Result<(SoughtSlice, Vec<u8>), AllocError>
+    requires begins { Begins task.now booted.now ends.now }
+    requires most { class.most ≤ 64 }
+    ensures { IfOk result (λ told. IsLookedBy task.now turns class from.now limit told.0 told.1.items) }
+{
+    let runs = ListRuns {
+        alloc,
+        booted,
+        ends,
+        task,
+        turns,
+    };
+    match limit {
+        Some(most) => tell_slice(alloc, task, search_slice(alloc, &runs, class, from, most)?),
+        None => tell_whole(alloc, task, search_alone(alloc, &runs, class)?),
+    }
 }
 
 // Makes the runs from boot, and tells what came of them.
@@ -86,19 +180,18 @@ fn seek_from(
     task: &Task<'_, '_>,
     turns: u32,
     class: Class,
-) -> Result<(SoughtList, Vec<u8>), u8>
+    from: &[u32],
+    limit: Option<u64>,
+) -> Result<(SoughtSlice, Vec<u8>), u8>
     requires begins { BeginsAt task.now.file task.now.conf booted.now }
     requires most { class.most ≤ 64 }
-    ensures ok { IfOk result (λ told. SeeksFrom (IsListedBy task.now turns class) task.now.goal booted.now (Ok (told.0, told.1.items))) }
-    ensures err { IfErr result (λ why. SeeksFrom (IsListedBy task.now turns class) task.now.goal booted.now (Err why)) }
+    ensures ok { IfOk result (λ told. SeeksFrom (IsLookedBy task.now turns class from.now limit) task.now.goal booted.now (Ok (told.0, told.1.items))) }
+    ensures err { IfErr result (λ why. SeeksFrom (IsLookedBy task.now turns class from.now limit) task.now.goal booted.now (Err why)) }
 {
     let core = asked_core(alloc, booted, task.goal)?;
     let goal = ends_of(task.goal);
     let ends = Machines::new(alloc, &*core, &goal, Known::nothing());
-    let Ok(listed) = search_lists(alloc, booted, &ends, task, turns, class) else {
-        return Err(NO_MEMORY);
-    };
-    match tell_listed(alloc, task, listed) {
+    match look(alloc, booted, &ends, task, turns, class, from, limit) {
         Ok(told) => Ok(told),
         Err(_) => Err(NO_MEMORY),
     }
@@ -110,13 +203,15 @@ fn seek_booted(
     task: &Task<'_, '_>,
     turns: u32,
     class: Class,
-) -> Result<(SoughtList, Vec<u8>), u8>
+    from: &[u32],
+    limit: Option<u64>,
+) -> Result<(SoughtSlice, Vec<u8>), u8>
     requires { class.most ≤ 64 }
-    ensures ok { IfOk result (λ told. SeeksListsOf None task.now turns class (Ok (told.0, told.1.items))) }
-    ensures err { IfErr result (λ why. SeeksListsOf None task.now turns class (Err why)) }
+    ensures ok { IfOk result (λ told. LooksBy None turns class from.now limit task.now (Ok (told.0, told.1.items))) }
+    ensures err { IfErr result (λ why. LooksBy None turns class from.now limit task.now (Err why)) }
 {
     match Booted::new(alloc, task.file, task.conf) {
-        Ok(booted) => seek_from(alloc, &booted, task, turns, class),
+        Ok(booted) => seek_from(alloc, &booted, task, turns, class, from, limit),
         Err(error) => Err(audit_number(error)),
     }
 }
@@ -129,18 +224,20 @@ fn seek_watched(
     numbers: &OrderNumbers,
     turns: u32,
     class: Class,
+    from: &[u32],
+    limit: Option<u64>,
     n: u64,
     few: u32,
     keys: &[u8],
     watches: &[WatchNumbers],
     never: &[u32],
     output: Option<&[u8]>,
-) -> Result<(SoughtList, Vec<u8>), u8>
+) -> Result<(SoughtSlice, Vec<u8>), u8>
     requires { class.most ≤ 64 }
-    ensures ok { IfOk result (λ told. SeeksListsOf None (asked_with file.now numbers.now n
-        (criteria_of keys.now watches.now never.now (bytes_of output.entry)) few conf) turns class (Ok (told.0, told.1.items))) }
-    ensures err { IfErr result (λ why. SeeksListsOf None (asked_with file.now numbers.now n
-        (criteria_of keys.now watches.now never.now (bytes_of output.entry)) few conf) turns class (Err why)) }
+    ensures ok { IfOk result (λ told. LooksBy None turns class from.now limit (asked_with file.now numbers.now n
+        (criteria_of keys.now watches.now never.now (bytes_of output.entry)) few conf) (Ok (told.0, told.1.items))) }
+    ensures err { IfErr result (λ why. LooksBy None turns class from.now limit (asked_with file.now numbers.now n
+        (criteria_of keys.now watches.now never.now (bytes_of output.entry)) few conf) (Err why)) }
 {
     let Ok(watches) = watches_of(alloc, watches) else {
         return Err(NO_MEMORY);
@@ -159,7 +256,7 @@ fn seek_watched(
         goal: &goal,
         few,
     };
-    seek_booted(alloc, &task, turns, class)
+    seek_booted(alloc, &task, turns, class, from, limit)
 }
 
 fn class_of(class: &ClassNumbers) -> Class
@@ -179,6 +276,49 @@ fn steps_of(numbers: &OrderNumbers, class: &ClassNumbers) -> Option<u32>
 {
     if numbers.kind == 0 && class.most <= 64 {
         Some(numbers.turns)
+    } else {
+        None
+    }
+}
+
+// Looks for the first list of a class whose run goes wrong, where these are the Steps of a turn.
+fn seek_turns(
+    alloc: Global,
+    conf: Conf,
+    file: &[u8],
+    numbers: &OrderNumbers,
+    turns: u32,
+    class: Class,
+    from: &[u32],
+    limit: Option<u64>,
+    n: u64,
+    few: u32,
+    keys: &[u8],
+    watches: &[WatchNumbers],
+    never: &[u32],
+    output: Option<&[u8]>,
+) -> Result<(SoughtSlice, Vec<u8>), u8>
+    requires { class.most ≤ 64 }
+    ensures ok { IfOk result (λ told. LooksBy (order_fault (Turns turns)) turns class from.now limit (asked_with file.now numbers.now n
+        (criteria_of keys.now watches.now never.now (bytes_of output.entry)) few conf) (Ok (told.0, told.1.items))) }
+    ensures err { IfErr result (λ why. LooksBy (order_fault (Turns turns)) turns class from.now limit (asked_with file.now numbers.now n
+        (criteria_of keys.now watches.now never.now (bytes_of output.entry)) few conf) (Err why)) }
+{
+    match Order::Turns(turns).fault() {
+        Some(error) => Err(order_number(error)),
+        None => seek_watched(
+            alloc, conf, file, numbers, turns, class, from, limit, n, few, keys, watches, never,
+            output,
+        ),
+    }
+}
+
+// The list of these numbers.
+fn list_of<'a>(from: &'a ListNumbers) -> Option<&'a [u32]>
+    ensures { MatchOption result (list_in from.now ≡ None) (λ list. list_in from.now ≡ Some list.now) }
+{
+    if from.count <= 64 {
+        Some(&from.delays[..from.count as usize])
     } else {
         None
     }
@@ -207,12 +347,71 @@ pub(crate) fn seek_lists(
         return Err(BAD);
     };
     let lists = class_of(class);
-    match Order::Turns(turns).fault() {
-        Some(error) => Err(order_number(error)),
-        None => seek_watched(
-            alloc, conf, file, numbers, turns, lists, n, few, keys, watches, never, output,
-        ),
+    match seek_turns(
+        alloc,
+        conf,
+        file,
+        numbers,
+        turns,
+        lists,
+        &[],
+        None,
+        n,
+        few,
+        keys,
+        watches,
+        never,
+        output,
+    ) {
+        Ok((told, events)) => Ok((told.found, events)),
+        Err(answer) => Err(answer),
     }
+}
+
+/// The same of a slice: at most so many runs that go right, from a list on.
+pub(crate) fn seek_slice(
+    alloc: Global,
+    conf: Conf,
+    file: &[u8],
+    numbers: &OrderNumbers,
+    class: &ClassNumbers,
+    from: &ListNumbers,
+    most: u64,
+    n: u64,
+    few: u32,
+    keys: &[u8],
+    watches: &[WatchNumbers],
+    never: &[u32],
+    output: Option<&[u8]>,
+) -> Result<(SoughtSlice, Vec<u8>), u8>
+    ensures ok { IfOk result (λ told. SeeksSlicesIn (steps_in numbers.now class.now) (list_in from.now) most (asked_with file.now numbers.now n
+        (criteria_of keys.now watches.now never.now (bytes_of output.entry)) few conf) (class_in class.now) (Ok (told.0, told.1.items))) }
+    ensures err { IfErr result (λ why. SeeksSlicesIn (steps_in numbers.now class.now) (list_in from.now) most (asked_with file.now numbers.now n
+        (criteria_of keys.now watches.now never.now (bytes_of output.entry)) few conf) (class_in class.now) (Err why)) }
+{
+    let Some(turns) = steps_of(numbers, class) else {
+        return Err(BAD);
+    };
+    let Some(list) = list_of(from) else {
+        return Err(BAD);
+    };
+    let lists = class_of(class);
+    seek_turns(
+        alloc,
+        conf,
+        file,
+        numbers,
+        turns,
+        lists,
+        list,
+        Some(most),
+        n,
+        few,
+        keys,
+        watches,
+        never,
+        output,
+    )
 }
 
 impl Session {
@@ -243,6 +442,42 @@ impl Session {
         ) {
             Ok((what, events)) => {
                 *found = what;
+                self.bytes = events;
+                0
+            }
+            Err(answer) => answer,
+        }
+    }
+
+    pub(crate) fn seek_slice(
+        &mut self,
+        alloc: Global,
+        file: &[u8],
+        numbers: &OrderNumbers,
+        class: &ClassNumbers,
+        from: &ListNumbers,
+        most: u64,
+        n: u64,
+        few: u32,
+        keys: &[u8],
+        watches: &[WatchNumbers],
+        never: &[u32],
+        output: Option<&[u8]>,
+        slice: &mut SoughtSlice,
+    ) -> u8
+        ensures { SeeksSlicesAs (asked_with file.now numbers.now n
+            (criteria_of keys.now watches.now never.now (bytes_of output.entry)) few)
+            class.now from.now most result slice.old slice.new self.old self.new }
+    {
+        let Some(machine) = &self.machine else {
+            return NOTHING;
+        };
+        let conf = machine.conf();
+        match seek_slice(
+            alloc, conf, file, numbers, class, from, most, n, few, keys, watches, never, output,
+        ) {
+            Ok((what, events)) => {
+                *slice = what;
                 self.bytes = events;
                 0
             }

@@ -8,11 +8,13 @@ ghost use Rattle.m161_c.specs.Judged.{AuditsAs, JudgesAs};
 ghost use Rattle.m161_c.specs.Runs.{AtSlot, machine_of};
 ghost use Rattle.m161_c.specs.Search.{SearchesOf};
 ghost use Rattle.m161_c.specs.Seeds.{SeeksAs, asked_with};
+ghost use Rattle.m161_c.specs.Slices.{SeeksSlicesAs};
 ghost use Rattle.m161_c.specs.Hung.{HungAs};
 
 use crate::NOTHING;
 use crate::answer::{
-    ClassNumbers, Exploration, Goal, Judgement, OrderNumbers, Sought, SoughtList, WatchNumbers,
+    ClassNumbers, Exploration, Goal, Judgement, ListNumbers, OrderNumbers, Sought, SoughtList,
+    SoughtSlice, WatchNumbers,
 };
 use crate::handle::Slot;
 use std::alloc::Global;
@@ -126,6 +128,45 @@ pub extern "C" fn talusdish_delays(
     let output = output_of(asked, output);
     let answer = session.seek_lists(
         alloc, file, order, class, n, few, keys, watches, never, output, found,
+    );
+    slot.put(alloc, session);
+    answer
+}
+
+/// A slice of what `talusdish_delays` does: looks at the useful lists of the class from this one on, in their
+/// order, and makes at most so many runs that go right. At first the list is the empty one. 0, and what was
+/// found is told, the runs of the slice alone: as there where one goes wrong or no list is left; else with the
+/// list to go on from. So slices that go on from each other, of at least one run each, find together what the
+/// whole does. Else the first of the numbers there, where 253 is also for a list of more than 64 delays.
+#[unsafe(no_mangle)]
+pub extern "C" fn talusdish_slice(
+    alloc: Global,
+    slot: &mut Slot,
+    file: &[u8],
+    order: &OrderNumbers,
+    class: &ClassNumbers,
+    from: &ListNumbers,
+    most: u64,
+    n: u64,
+    few: u32,
+    keys: &[u8],
+    watches: &[WatchNumbers],
+    never: &[u32],
+    asked: bool,
+    output: &[u8],
+    slice: &mut SoughtSlice,
+) -> u8
+    ensures run { AtSlot slot.old.handle.session result slot.new.handle.session (SeeksSlicesAs
+        (asked_with file.now order.now n (criteria_of keys.now watches.now never.now (output_in asked output.now)) few)
+        class.now from.now most result slice.old slice.new) }
+    ensures none { slot.old.handle.session ≡ None → slice.new ≡ slice.old }
+{
+    let Some(mut session) = slot.take(alloc) else {
+        return NOTHING;
+    };
+    let output = output_of(asked, output);
+    let answer = session.seek_slice(
+        alloc, file, order, class, from, most, n, few, keys, watches, never, output, slice,
     );
     slot.put(alloc, session);
     answer

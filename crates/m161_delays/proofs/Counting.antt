@@ -1,12 +1,13 @@
-use Rattle.std.proofs.Common.{◌≡◌, refl, sym, subst, ℕ, ◌+◌, ◌%◌, ◌^◌, Bool, List, [], ◌∷◌, ◌++◌, length, arith, ◌⊎◌, inl, inr}
+use Rattle.std.proofs.Common.{◌≡◌, refl, sym, subst, ℕ, ◌+◌, ◌<◌, ◌≤◌, ◌%◌, ◌^◌, Bool, List, [], ◌∷◌, ◌++◌, length, arith, ◌⊎◌, inl, inr}
 use Rattle.std.proofs.lemmas.List.{length-append}
-use Rattle.std.specs.Prelude.{if◌then◌else◌}
+use Rattle.std.specs.Prelude.{if◌then◌else◌, Option, Some}
 use Rattle.std.specs.List.{AllByRecursion}
 use Rattle.m161_delays.specs.declared.walk.Sums.{Sums}
 use Rattle.m161_delays.specs.Lists.{ComesBefore}
 use Rattle.m161_delays.specs.Runs.{AreInOrder, AreThose, IsAmong}
 use Rattle.m161_jobs.specs.Trials.{AreRight}
 use Rattle.m161_jobs.proofs.Rights.{right_more, right_one}
+use Rattle.m161_delays.specs.helpers.Slicing.{AreMade}
 use Rattle.m161_delays.specs.helpers.Walking.{AreCounted}
 
 -- Lists of lists, and how many of their runs are cut.
@@ -129,3 +130,41 @@ counted_same A B right s t to back counted = record {
 pub counted_right : (A : List ℕ → Type 0) (right : List ℕ → Bool → Type 0) (s t : Sums) (z : List ℕ) → AreCounted A right s t → A z →
     (is_cut : Bool) × right z is_cut
 counted_right A right s t z counted so = right_among right counted.lists counted.cut z counted.are_right (counted.are_those.all z so)
+
+-- runs that are made, up to a limit
+pub made_none : (A : List ℕ → Type 0) (right : List ℕ → Bool → Type 0) (limit : Option ℕ) (s : Sums) → ((z : List ℕ) → A z → ⊥) →
+    AreMade A right limit s s
+unfolding counted_none
+made_none A right limit s none = record { counted = counted_none A right s none; within = λ most is few. (omega arith, few) }
+
+pub made_more : (A B C : List ℕ → Type 0) (right : List ℕ → Bool → Type 0) (limit : Option ℕ) (s t u : Sums) →
+    ((x y : List ℕ) → A x → B y → ComesBefore x y) →
+    ((z : List ℕ) → A z → C z) → ((z : List ℕ) → B z → C z) → ((z : List ℕ) → C z → A z ⊎ B z) →
+    AreMade A right limit s t → AreMade B right limit t u → AreMade C right limit s u
+unfolding counted_more
+made_more A B C right limit s t u order of_a of_b split first second = record {
+  counted = counted_more A B C right s t u order of_a of_b split first.counted second.counted;
+  within = λ most is few.
+      let a = first.within most is few in
+      let b = second.within most is a.1 in
+      let here = a.0 in
+      let there = b.0 in
+      let size = length-append first.counted.lists second.counted.lists in (omega (arith, here, there, size), b.1);
+}
+
+pub made_same : (A B : List ℕ → Type 0) (right : List ℕ → Bool → Type 0) (limit : Option ℕ) (s t : Sums) → ((z : List ℕ) → A z → B z) →
+    ((z : List ℕ) → B z → A z) → AreMade A right limit s t → AreMade B right limit s t
+unfolding counted_same
+made_same A B right limit s t to back made = record { counted = counted_same A B right s t to back made.counted; within = made.within }
+
+pub made_one : (A : List ℕ → Type 0) (right : List ℕ → Bool → Type 0) (limit : Option ℕ) (s t : Sums) (x : List ℕ) (is_cut : Bool) → A x →
+    ((z : List ℕ) → A z → z ≡ x) → right x is_cut →
+    ((most : ℕ) → limit ≡ Some most → s.runs ≤ most → (s.runs < most) × (most < 2 ^ 64)) →
+    t.runs ≡ (s.runs + 1) % 2 ^ 64 → t.cut ≡ (s.cut + (if is_cut then 1 else 0)) % 2 ^ 64 →
+    AreMade A right limit s t
+unfolding counted_one counted_those
+made_one A right limit s t x is_cut so only is_right room runs cut = record {
+  counted = counted_one A right s t x is_cut so only is_right runs cut;
+  within = λ most is few.
+      let h = room most is few in let less = h.0 in let small = h.1 in (omega (arith, less, small, runs), omega (arith, less, small, runs));
+}

@@ -22,19 +22,19 @@ none_useful class offers = (
   λ j some. absurd (let bad : ⊥ = omega (arith, some) in bad),
 )
 
-long_of : (class : Class) (offers : List ℕ → List ℕ) (n : ℕ) (z : List ℕ) → IsBehind class offers [] n z → length z ≡ n
+pub long_of : (class : Class) (offers : List ℕ → List ℕ) (n : ℕ) (z : List ℕ) → IsBehind class offers [] n z → length z ≡ n
 long_of class offers n z h = ap length h.all_is ∙ h.long
 
-of_long : (class : Class) (offers : List ℕ → List ℕ) (n : ℕ) (z : List ℕ) → IsUsefulOf class offers z → length z ≡ n → IsBehind class offers [] n z
+pub of_long : (class : Class) (offers : List ℕ → List ℕ) (n : ℕ) (z : List ℕ) → IsUsefulOf class offers z → length z ≡ n → IsBehind class offers [] n z
 of_long class offers n z useful long = record { rest = z; all_is = refl; long = long; is_useful = useful }
 
-lt_of : (a b : ℕ) → nat_lt a b ≡ true → a < b
+pub lt_of : (a b : ℕ) → nat_lt a b ≡ true → a < b
 lt_of a b h = grind (arith, nat_tests)
 
 not_lt : (a b : ℕ) → nat_lt a b ≡ false → a < b + 1 → a ≡ b
 not_lt a b h within = grind (arith, nat_tests)
 
-by_length : (class : Class) (offers : List ℕ → List ℕ) (n : ℕ) (z : List ℕ) → IsUsefulOf class offers z → length z < n + 1 →
+pub by_length : (class : Class) (offers : List ℕ → List ℕ) (n : ℕ) (z : List ℕ) → IsUsefulOf class offers z → length z < n + 1 →
     (less : Bool) → nat_lt (length z) n ≡ less → IsShorter class offers n z ⊎ IsBehind class offers [] n z
 by_length class offers n z useful within true less = inl (useful, lt_of (length z) n less)
 by_length class offers n z useful within false less = inr (of_long class offers n z useful (not_lt (length z) n less within))

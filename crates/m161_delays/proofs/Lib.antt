@@ -8,3 +8,7 @@ pub mod Lengths
 pub mod Members
 mod Batches
 mod Points
+pub mod Slicing
+pub mod Slices
+mod Joining
+pub mod Implying

@@ -176,7 +176,7 @@ next_within ns zs ys n k (inl shorter) same =
     absurd (let bad : ⊥ = omega (arith, shorter, a, b, same) in bad)
 next_within ns zs ys n k (inr long) same = first_within n k zs ys (less_inside ns (n ∷ zs) (k ∷ ys) long.1)
 
-by_next : (class : Class) (offers : List ℕ → List ℕ) (ns : List ℕ) (m k : ℕ) (y z ys zs : List ℕ) → y ≡ ns ++ k ∷ ys → length ys ≡ m →
+pub by_next : (class : Class) (offers : List ℕ → List ℕ) (ns : List ℕ) (m k : ℕ) (y z ys zs : List ℕ) → y ≡ ns ++ k ∷ ys → length ys ≡ m →
     (h : IsBehind class offers ns (suc m) z) → h.rest ≡ zs → ComesBefore z y →
     IsBehindBelow class offers ns (suc m) k z ⊎ IsBehind class offers (ns ++ k ∷ []) m z
 by_next class offers ns m k y z ys [] is long h rest order =

@@ -1,4 +1,5 @@
 pub mod Lists
 pub mod Runs
 pub mod Search
+pub mod Slices
 pub mod helpers

@@ -4,6 +4,7 @@ ghost use Rattle.std.specs.Prelude.{◌≤◌, IfErr, IfOk};
 ghost use Rattle.m161_delays.specs.Search.{Finds};
 
 use crate::runs::Runs;
+use crate::slice::search_alone;
 use crate::walk::{Sums, walk};
 use m161_order::Delays;
 use std::alloc::Global;
@@ -56,6 +57,9 @@ pub fn search_lists<R: Threads + Sync, T: Runs>(
     ensures ok { IfOk result (Finds class (T.offers runs.now) (T.right runs.now) (T.wrong runs.now)) }
     ensures err { IfErr result (T.fails runs.now) }
 {
+    if jobs < 2 {
+        return search_alone(alloc, runs, class);
+    }
     let start = runs.start()?;
     let mut sums = Sums { runs: 0, cut: 0 };
     for length in 0..class.most + 1 {

@@ -1,6 +1,6 @@
-//! The walk over the useful lists of a class, depth first.
+//! The walk over the useful lists of a class in several threads, depth first.
 
-ghost use Rattle.std.specs.Prelude.{◌≡◌, true, ◌%◌, ◌^◌, if◌then◌else◌, ◌≤◌, ◌+◌, ◌++◌, ◌∷◌, [], ◌<◌, IfErr, IfOk, IfSome, MatchOption, Some, None, ℕ, length, slice_index};
+ghost use Rattle.std.specs.Prelude.{◌≡◌, ◌%◌, ◌^◌, if◌then◌else◌, ◌≤◌, ◌+◌, ◌++◌, ◌∷◌, [], ◌<◌, IfErr, IfOk, IfSome, MatchOption, Some, None, ℕ, length, slice_index};
 ghost use Rattle.m161_order.specs.Delays.{delays_of};
 ghost use Rattle.m161_delays.specs.Lists.{times};
 ghost use Rattle.m161_delays.specs.helpers.Last.{last_from};
@@ -44,8 +44,8 @@ pub(crate) struct Found<W> {
     pub wrong: W,
 }
 
-// How many runs are cut, of one.
-fn one_if(is_cut: bool) -> u32
+/// How many runs are cut, of one.
+pub(crate) fn one_if(is_cut: bool) -> u32
     ensures { result ≡ (if is_cut then 1 else 0) }
 {
     if is_cut { 1 } else { 0 }
@@ -158,16 +158,9 @@ pub(crate) fn useful_longer<T: Runs>(
     longer(delays, number, counts[number as usize])
 }
 
-// Whether several threads look at the lists with so many numbers more.
-fn is_batch(more: u32, jobs: u32) -> bool
-    ensures { result ≡ true → more ≡ 1 }
-{
-    more == 1 && jobs > 1
-}
-
 /// Makes the runs of the useful lists that go on behind one with so many numbers more, in their order,
-/// up to the first that goes wrong. Each begins at this point, or further on: with one job, at the place
-/// of its last number.
+/// up to the first that goes wrong: those that differ in their last number alone in so many threads. Each
+/// begins at this point, or further on, at the place of the number before its last one.
 ///
 /// # Errors
 /// A run can't be made, or memory is refused.
@@ -195,7 +188,7 @@ pub(crate) fn walk<R: Threads + Sync, T: Runs>(
     }
     let mut counts = Vec::new(alloc);
     runs.offers(&delays, &mut counts)?;
-    if is_batch(more, jobs) {
+    if more == 1 {
         return walk_last(rt, alloc, runs, class, &delays, point, &counts, jobs, sums);
     }
     let mut on = runs.copy(point)?;

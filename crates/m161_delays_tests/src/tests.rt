@@ -3,4 +3,5 @@
 
 mod classes;
 mod jobs;
+mod slices;
 mod trials;

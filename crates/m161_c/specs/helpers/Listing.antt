@@ -1,44 +1,29 @@
-use Rattle.std.specs.Prelude.{◌≡◌, ℕ, List, Option, None, Some}
+use Rattle.std.specs.Prelude.{◌≡◌, ℕ, Bool, List, Option, None, Some, Result}
 use Rattle.m161_delays.specs.declared.search.Class.{Class}
-use Rattle.m161_delays.specs.helpers.Walking.{AreCounted, IsFirstSo}
-use Rattle.m161_delays.specs.Search.{AreClean, IsFirst}
 use Rattle.m161_machine.specs.State.{State}
-use Rattle.m161_order.specs.declared.delays.Delays.{Delays}
-use Rattle.m161_order.specs.declared.order.Order.TheVariants.{Delayed}
-use Rattle.m161_order.specs.Delays.{delays_of}
-use Rattle.m161_c.specs.declared.lists.Listed.{Listed}
-use Rattle.m161_c.specs.declared.lists.ListSums.{ListSums}
-use Rattle.m161_c.specs.declared.lists.WrongList.{WrongList}
+use Rattle.m161_order.specs.declared.order.OrderError.{OrderError}
+use Rattle.m161_states.specs.Question.{Question}
+use Rattle.m161_c.specs.declared.answer.SoughtSlice.{SoughtSlice}
 use Rattle.m161_c.specs.declared.seeds.WrongRun.{WrongRun}
-use Rattle.m161_c.specs.Delays.{HasRightRun, offered_by}
-use Rattle.m161_c.specs.Seeds.{Asked, IsToldRun}
+use Rattle.m161_c.specs.Delays.{HasRightRun, HasWrongRun, IsListedBy}
+use Rattle.m161_c.specs.Seeds.{Asked, SeeksBy}
+use Rattle.m161_c.specs.Slices.{IsSlicedBy}
+use Rattle.m161_c.specs.helpers.Seeking.{Begins}
 
--- A search over lists of delays before it is told.
+-- A search over lists of delays, made from what may be the state at boot.
 
--- the run of a list goes wrong in this way
-abbrev pub HasWrongRun : Asked → ℕ → List ℕ → WrongRun → Type 0
-HasWrongRun a steps numbers wrong =
-    (delays : Delays) × (delays_of delays ≡ numbers) × IsToldRun a (Delayed steps delays) wrong.run (Some wrong.told)
+abbrev pub IsRightFrom : Asked → State → Question → ℕ → List ℕ → Bool → Type 0
+IsRightFrom a s q steps numbers is_cut = Begins a s q → HasRightRun a steps numbers is_cut
 
--- all lists that are so have right runs, which are counted
-abbrev pub AreCountedIn : Asked → ℕ → (List ℕ → Type 0) → ListSums → ListSums → Type 0
-AreCountedIn a steps IsSo old new =
-    AreCounted IsSo (HasRightRun a steps) (record { runs = old.runs; cut = old.cut }) (record { runs = new.runs; cut = new.cut })
+abbrev pub IsWrongFrom : Asked → State → Question → ℕ → List ℕ → WrongRun → Type 0
+IsWrongFrom a s q steps numbers wrong = Begins a s q → HasWrongRun a steps numbers wrong
 
--- the first list that is so and has a wrong run
-abbrev pub IsFirstIn : Asked → ℕ → (List ℕ → Type 0) → WrongList → Type 0
-IsFirstIn a steps IsSo found =
-    IsFirstSo IsSo (HasRightRun a steps) (HasWrongRun a steps) (record { delays = found.delays; wrong = found.wrong })
+-- the whole search, or a slice of so many runs from a list on
+abbrev pub IsLookedBy : Asked → ℕ → Class → List ℕ → Option ℕ → SoughtSlice → List ℕ → Type 0
+IsLookedBy a steps class from None told events = IsListedBy a steps class told.found events
+IsLookedBy a steps class from (Some most) told events = IsSlicedBy a steps class from most told events
 
-abbrev pub WalksLists : Asked → ℕ → (List ℕ → Type 0) → ListSums → ListSums → Option WrongList → Type 0
-WalksLists a steps IsSo old new None = AreCountedIn a steps IsSo old new
-WalksLists a steps IsSo old new (Some found) = IsFirstIn a steps IsSo found
-
-abbrev pub FindsBy : Asked → ℕ → Class → State → ListSums → Option WrongList → Type 0
-FindsBy a steps class booted sums None =
-    AreClean class (offered_by a steps booted) (HasRightRun a steps) sums.runs sums.cut
-FindsBy a steps class booted sums (Some found) =
-    IsFirst class (offered_by a steps booted) (HasRightRun a steps) (HasWrongRun a steps) (delays_of found.delays) found.wrong
-
-abbrev pub FindsList : Asked → ℕ → Class → State → Listed → Type 0
-FindsList a steps class booted listed = FindsBy a steps class booted listed.sums listed.wrong
+-- what comes of it
+abbrev pub LooksBy :
+    Option OrderError → ℕ → Class → List ℕ → Option ℕ → Asked → Result (SoughtSlice × List ℕ) ℕ → Type 0
+LooksBy fault steps class from limit a result = SeeksBy fault (IsLookedBy a steps class from limit) a result

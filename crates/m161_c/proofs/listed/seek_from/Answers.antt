@@ -10,10 +10,10 @@ returns-in_err-core-clause-err c =
     let p = err_from_is_err_and c.from_residual.result c.from_residual.ensures.1 in
     rw (p.1, p.2) (subst (λ (a : Asked). IsRefused c.args.booted.now a.goal c.in_err-core.field-0.0) c.task.view_is c.in_err-core.ensures.err)
 
-pub returns-in-Ok-tell_listed-clause-ok : goal.returns-in-Ok-tell_listed-clause-ok
-returns-in-Ok-tell_listed-clause-ok c =
+pub returns-in-Ok-clause-ok : goal.returns-in-Ok-clause-ok
+returns-in-Ok-clause-ok c =
     let booted = c.args.booted.now in (
       subst (λ (a : Asked). AreAllGood booted a.goal) c.task.view_is c.in_ok-core.ensures.good,
       subst (λ (a : Asked). CanBeAsked booted a.goal) c.task.view_is c.in_ok-core.ensures.asked,
-      c.in-Ok-tell_listed.ensures c.args.turns c.args.class booted c.requires.begins c.in-Ok.ensures,
+      c.in-Ok.ensures,
     )
