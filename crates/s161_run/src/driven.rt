@@ -53,15 +53,7 @@ pub fn run_driven<'a, F: FileSource>(
         log,
         task.run.traps,
     )?;
-    let unhandled = unhandled_chosen(
-        alloc,
-        &file,
-        &core,
-        events,
-        task.drive,
-        &keys,
-        &made.watch,
-    )?;
+    let unhandled = unhandled_chosen(alloc, &file, &core, events, task.drive, &keys, &made.watch)?;
     let done = finish_run(alloc, &core, made, &file, task.run.shown, unhandled)?;
     Ok(done)
 }
