@@ -11,5 +11,5 @@ mod Choosing
 mod Running
 mod Scheduling
 mod Turning
-mod Unhandled
+mod Looking
 pub mod Listing

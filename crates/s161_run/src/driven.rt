@@ -59,15 +59,7 @@ pub fn run_driven<'a, F: FileSource>(
         task.run.traps,
         progress,
     )?;
-    let unhandled = unhandled_chosen(
-        alloc,
-        &file,
-        &core,
-        events,
-        task.drive,
-        &keys,
-        &made.watch,
-    )?;
+    let unhandled = unhandled_chosen(alloc, &file, &core, events, task.drive, &keys, &made.watch)?;
     let done = finish_run(alloc, &core, made, &file, task.run.shown, unhandled)?;
     Ok(done)
 }

@@ -143,7 +143,8 @@ pub(crate) fn unhandled_listed(
         return Ok(None);
     }
     let mut again = boot_again(alloc, file, core.conf())?;
-    look_listed(&mut again, events, core.made(), &spans)
+    let found = look_listed(&mut again, events, core.made(), &spans)?;
+    Ok(found)
 }
 
 /// The same of a run that made first events, and behind them those that the options' policy chose.
@@ -177,5 +178,6 @@ pub(crate) fn unhandled_chosen(
         return Ok(Some(trap));
     }
     let behind = made.saturating_sub(first.len() as u64);
-    look_chosen(&mut again, options, keys, behind, &spans)
+    let found = look_chosen(&mut again, options, keys, behind, &spans)?;
+    Ok(found)
 }

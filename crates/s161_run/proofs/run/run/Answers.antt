@@ -1,4 +1,4 @@
-use Rattle.std.proofs.Common.{◌≡◌, ◌∙◌, List, ℕ, IfSome, ap, string_bytes, subst, sym}
+use Rattle.std.proofs.Common.{◌≡◌, ◌∙◌, ◌++◌, List, ℕ, IfSome, ap, string_bytes, subst, sym}
 use Rattle.std.proofs.lemmas.Result.{err_from_is_err_and}
 use Rattle.s161_base.proofs.Asking.{after_all, alone_unread, asks_err, before_input, boot_is_none, input_is_none, none_before, says_err}
 use Rattle.s161_base.specs.Asked.{IsBeforeInput, image_files}
@@ -14,6 +14,8 @@ use Rattle.s161_base.specs.Samples.{image_file}
 use Rattle.s161_run.specs.declared.events.RunStop.{RunStop}
 use Rattle.s161_run.specs.Runs.{MakesEvents, log_of_run, summary_text, told_traps}
 use Rattle.s161_run.proofs.Logging.{kept_fit, run_shown}
+use Rattle.s161_run.proofs.Looking.{boots_still}
+use Rattle.m161_traps.specs.Shown.{trapping_text, unhandled_text}
 use Rattle.s161_run.proofs.run.run.Goals as goal
 
 pub finish_run-requires : goal.finish_run-requires
@@ -58,6 +60,10 @@ returns-clause-ok g c =
           ∙ ap (λ lines. summary_text lines (log_of_run conf file made.entries) state stop shown) made.lines_are
           ∙ ap (λ (stop : RunStop). summary_text (told_traps c.args.task.traps booted (events_of made.entries)) (log_of_run conf file made.entries) state stop shown)
           (sym c.in_ok-done.ensures.stop);
+      notes_are =
+          c.in_ok-done.ensures.notes made.entries made.watched
+          ∙ ap (λ found. unhandled_text found ++ trapping_text made.entries)
+          (c.in_ok-unhandled.ensures booted stop made.entries (boots_still file conf booted state made.entries boots made.makes.leads) made.makes made.watched);
     }
 
 pub returns-in_err-run-clause-fault : goal.returns-in_err-run-clause-fault
@@ -166,3 +172,14 @@ returns-in_err-done-clause-asks g c =
 pub returns-in_err-done-clause-unread : goal.returns-in_err-done-clause-unread
 returns-in_err-done-clause-unread g c =
     says_err (λ fault. IsBeforeInput fault (g.I.Read.remaining c.args.input.now) (g.I.Read.remaining c.read_input.new.input)) c.from_residual-in_err-done.result c.from_residual-in_err-done.ensures.1 (none_before Memory (g.I.Read.remaining c.args.input.now) (g.I.Read.remaining c.read_input.new.input) tt)
+
+pub returns-in_err-unhandled-clause-asks : goal.returns-in_err-unhandled-clause-asks
+returns-in_err-unhandled-clause-asks g c =
+    let asked = g.F.FileSource.asked in
+    asks_err c.from_residual-in_err-unhandled.result c.from_residual-in_err-unhandled.ensures.1
+    (after_all (image_files c.args.task.image.now) (asked c.args.files.now) (asked c.read_image.new.files) Memory c.in_ok-file.ensures.asks
+    tt)
+
+pub returns-in_err-unhandled-clause-unread : goal.returns-in_err-unhandled-clause-unread
+returns-in_err-unhandled-clause-unread g c =
+    says_err (λ fault. IsBeforeInput fault (g.I.Read.remaining c.args.input.now) (g.I.Read.remaining c.read_input.new.input)) c.from_residual-in_err-unhandled.result c.from_residual-in_err-unhandled.ensures.1 (none_before Memory (g.I.Read.remaining c.args.input.now) (g.I.Read.remaining c.read_input.new.input) tt)

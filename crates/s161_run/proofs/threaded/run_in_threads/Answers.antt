@@ -50,6 +50,7 @@ returns-clause-ok g c =
           ∙ ap (λ (stop : RunStop). summary_text traps (shown_log conf file report.machine.base.made report.machine.log) report.machine.state stop c.args.task.run.shown)
           (sym c.in_ok-done.ensures.stop);
       stop_is = c.in_ok-done.ensures.stop;
+      has_none = c.in_ok-done.ensures.notes;
     }
 
 pub returns-in_err-report-clause-fault : goal.returns-in_err-report-clause-fault
