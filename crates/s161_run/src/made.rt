@@ -118,12 +118,12 @@ pub(crate) fn make_scheduled(
     if traps {
         return count_scheduled(alloc, core, events, log);
     }
-    let mut kept = Watched {
+    let mut watched = Watched {
         log,
         watch: Watch::new(),
     };
-    let stop = make_events(core, events, &mut kept)?;
-    let Watched { log, watch } = kept;
+    let stop = make_events(core, events, &mut watched)?;
+    let Watched { log, watch } = watched;
     Ok(Made {
         stop,
         log,
@@ -182,12 +182,12 @@ pub(crate) fn make_chosen(
     if traps {
         return count_chosen(alloc, core, first, options, keys, log);
     }
-    let mut kept = Watched {
+    let mut watched = Watched {
         log,
         watch: Watch::new(),
     };
-    let stop = make_behind(core, first, options, options.events, keys, &mut kept)?;
-    let Watched { log, watch } = kept;
+    let stop = make_behind(core, first, options, options.events, keys, &mut watched)?;
+    let Watched { log, watch } = watched;
     Ok(Made {
         stop,
         log,
