@@ -1,10 +1,10 @@
 use Rattle.std.specs.List.{All}
-use Rattle.std.proofs.Common.{◌≡◌, ◌∙◌, Bool, false, refl, ap, sym, subst, arith, ℕ, ◌+◌, ◌-◌, ◌<◌, ◌≤◌, min, List, [], ◌∷◌, ◌++◌, append_assoc, append-nil, length, take, drop, get_or}
-use Rattle.std.specs.Prelude.{Option, None, Some, Ok, map, slice_get, replicate}
+use Rattle.std.proofs.Common.{◌≡◌, ◌∙◌, Bool, false, refl, ap, sym, subst, arith, ℕ, ◌+◌, ◌-◌, ◌<◌, ◌≤◌, List, [], ◌∷◌, ◌++◌, append-nil, length, take, drop, get_or}
+use Rattle.std.specs.Prelude.{Option, None, Some, slice_get, replicate}
 use Rattle.std.proofs.lemmas.List.{drop_more, ext_get_or, length-append, length-drop, length-map, length-take, map-append, replicate-append-replicate, take-append-drop, take-take, take_all, take_more}
 use Rattle.m161_drive.specs.declared.cursor.Cursor.{Cursor}
 use Rattle.m161_drive.specs.Choice.{chosen, cursor_at, taken}
-use Rattle.m161_drive.specs.Drive.{Chooses, Goes}
+use Rattle.m161_drive.specs.Drive.{Chooses}
 use Rattle.m161_drive.specs.Policy.{Rules}
 use Rattle.m161_elf.specs.declared.span.Span.{Span}
 use Rattle.m161_elf.specs.Image.{IsImage}

@@ -124,13 +124,13 @@ pub(crate) fn make_scheduled(
     if traps {
         return count_scheduled(alloc, core, events, log, progress);
     }
-    let mut kept = Watched {
+    let mut watched = Watched {
         log,
         watch: Watch::new(),
         progress,
     };
-    let stop = make_events(core, events, &mut kept)?;
-    let Watched { log, watch, .. } = kept;
+    let stop = make_events(core, events, &mut watched)?;
+    let Watched { log, watch, .. } = watched;
     Ok(Made {
         stop,
         log,
@@ -194,13 +194,13 @@ pub(crate) fn make_chosen(
     if traps {
         return count_chosen(alloc, core, first, options, keys, log, progress);
     }
-    let mut kept = Watched {
+    let mut watched = Watched {
         log,
         watch: Watch::new(),
         progress,
     };
-    let stop = make_behind(core, first, options, options.events, keys, &mut kept)?;
-    let Watched { log, watch, .. } = kept;
+    let stop = make_behind(core, first, options, options.events, keys, &mut watched)?;
+    let Watched { log, watch, .. } = watched;
     Ok(Made {
         stop,
         log,

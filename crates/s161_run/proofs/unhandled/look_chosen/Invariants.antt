@@ -1,4 +1,3 @@
-use Rattle.s161_run.specs.Driven.{rules_of}
 use Rattle.s161_run.proofs.Looking.{Along}
 use Rattle.s161_run.proofs.unhandled.look_chosen.Given as goal
 

@@ -1,5 +1,4 @@
-use Rattle.std.proofs.Common.{◌≡◌, ◌∙◌, ◌-◌, None, ap, subst, sym, take}
-use Rattle.m161_elf.specs.Span.{spans}
+use Rattle.std.proofs.Common.{◌∙◌, ◌-◌, None, subst, sym, take}
 use Rattle.s161_run.proofs.Following.{behind_leads}
 use Rattle.m161_machine.specs.declared.conf.Conf.{Conf}
 use Rattle.m161_machine.specs.History.{IsBootState}

@@ -1,5 +1,4 @@
-use Rattle.std.proofs.Common.{◌≡◌, ◌∙◌, None, ap, subst, sym, take}
-use Rattle.m161_elf.specs.Span.{spans}
+use Rattle.std.proofs.Common.{◌∙◌, subst, take}
 use Rattle.m161_machine.specs.declared.conf.Conf.{Conf}
 use Rattle.m161_machine.specs.History.{IsBootState}
 use Rattle.s161_run.specs.helpers.Unhandled.{Looks}
