@@ -29,7 +29,7 @@ loop-long-preserved g c =
     (subst (λ xs. GoesAlong (IsBehindFrom c.args.class offers xs n c.rest_at-rest.result.now) right wrong c.args.limit s u c.in_ok-stop.field-0)
     c.none-none.ensures c.in_ok-stop.ensures.ok)) in
     record {
-      made = from_longer c.args.class offers right from n c.args.limit (record { runs = 0; cut = 0 }) s u (reached from n c.args.class.most c.loop-long.invariant.least c.loop-long-test.true c.requires) c.loop-long.invariant.made longer;
+      made = from_longer c.args.class offers right from n c.args.limit (record { runs = 0; cut = 0 }) s u (reached from n c.args.class.most c.loop-long.invariant.least (let less = c.loop-long-test.true in omega (arith, less)) c.requires) c.loop-long.invariant.made longer;
       least = let least = c.loop-long.invariant.least in omega (arith, least);
     }
 
@@ -49,7 +49,7 @@ returns-in-Some-clause-ok g c =
     (subst (λ xs. GoesAlong (IsBehindFrom c.args.class offers xs n c.rest_at-rest.result.now) right wrong c.args.limit s u c.in_ok-stop.field-0)
     c.none-none.ensures c.in_ok-stop.ensures.ok)) in
     from_stop c.args.class offers right wrong from n c.args.limit (record { runs = 0; cut = 0 }) s u c.in-Some.stop
-    (reached from n c.args.class.most c.loop-long.invariant.least c.loop-long-test.true c.requires) c.loop-long.invariant.made stops
+    (reached from n c.args.class.most c.loop-long.invariant.least (let less = c.loop-long-test.true in omega (arith, less)) c.requires) c.loop-long.invariant.made stops
 
 pub returns-clause-ok : goal.returns-clause-ok
 returns-clause-ok g c =
