@@ -1,12 +1,8 @@
-use Rattle.std.proofs.Common.{◌≡◌, refl, ℕ, ◌+◌, ◌<◌, Bool, true, false, List, arith, Ok, Err}
-use Rattle.std.specs.Prelude.{IfOk, Result}
+use Rattle.std.proofs.Common.{◌≡◌, refl, ℕ, Bool, true, false, arith}
 use Rattle.m161_delays.specs.declared.search.Class.{Class}
-use Rattle.m161_delays.specs.declared.search.Searched.{Searched}
 use Rattle.m161_delays.specs.declared.search.Searched.TheVariants as searched
-use Rattle.m161_delays.specs.Runs.{IsUsefulOf}
 use Rattle.m161_delays.specs.Search.{Finds}
 use Rattle.m161_delays.proofs.Counting.{right_among}
-use Rattle.m161_jobs.specs.declared.trials.Tried.{Tried}
 use Rattle.m161_jobs.specs.declared.trials.Tried.TheVariants as tried
 use Rattle.m161_jobs.specs.Answers.{IsAnswer}
 use Rattle.m161_jobs.proofs.Rights.{right_at}
@@ -21,7 +17,7 @@ use Rattle.s161_search.specs.declared.start.Start.{Start}
 use Rattle.s161_search.specs.Delays.{offered_by}
 use Rattle.s161_search.specs.Given.{Given}
 use Rattle.s161_search.specs.Seeds.{seed_at, with_seed}
-use Rattle.s161_search.specs.Unstored.{ListsUnstored, ListStores, SeedsUnstored, SeedStores}
+use Rattle.s161_search.specs.Unstored.{ListsUnstored, SeedsUnstored}
 use Rattle.s161_search.specs.helpers.Begun.{BeginsAt, IsStarted}
 use Rattle.s161_search.specs.helpers.Delayed.{IsRunFrom}
 use Rattle.s161_search.specs.helpers.Storing.{ListStoresFrom, SeedStoresFrom}
