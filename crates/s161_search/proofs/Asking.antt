@@ -2,7 +2,7 @@ use Rattle.std.proofs.Common.{ℕ, List, [], ◌∷◌, Option, None, Some}
 use Rattle.std.specs.Prelude.{IfErr, Result, Ok, Err, flat_map}
 use Rattle.m161_audit.specs.declared.finding.AuditError.{AuditError}
 use Rattle.m161_audit.specs.declared.finding.AuditError.TheVariants as audit
-use Rattle.s161_base.proofs.Asking.{IsNoFile, asks_both, asks_none, boot_is_none}
+use Rattle.s161_base.proofs.Asking.{IsNoFile, asks_both, asks_none, boot_error_is_none}
 use Rattle.s161_base.specs.Asked.{Asks, image_files, option_files}
 use Rattle.s161_base.specs.declared.fault.Fault.{Fault}
 use Rattle.s161_base.specs.declared.fault.Fault.TheVariants.{After, Conf, File, Image, Input, Log, LogImage, LogMachine, Memory, Never, Output, Schedule, Source, Threads, Touches, Watch, Watches, Word}
@@ -31,9 +31,9 @@ line_is_none None fault h = absurd h
 line_is_none (Some text) fault h = watches_failed IsNoFile text fault (λ n bad. tt) tt h
 
 -- a run that isn't audited
-pub audit_is_none : (e : AuditError) → IsNoFile (fault_of_audit e)
-audit_is_none (audit.Boot e) = boot_is_none e
-audit_is_none (audit.BadWatch k) = tt
+pub audit_is_none : (file : List ℕ) (ram : ℕ) (e : AuditError) → IsNoFile (fault_of_audit file ram e)
+audit_is_none file ram (audit.Boot e) = boot_error_is_none file ram e
+audit_is_none file ram (audit.BadWatch k) = tt
 
 -- a run that isn't made, or a word that stands for no address
 pub never_is_none : (task : SearchTask) (words : List (List ℕ)) (given : Given) (fault : Fault) → IsNeverFault task words given fault → IsNoFile fault

@@ -19,7 +19,7 @@ use Rattle.m161_machine.specs.declared.conf.BootError.{BootError}
 use Rattle.m161_machine.specs.declared.conf.Conf.{Conf as ConfValue}
 use Rattle.m161_machine.specs.History.{boot_fault}
 use Rattle.s161_search.specs.Audits.{fault_of_audit}
-use Rattle.s161_base.proofs.Failing.{boot_fails}
+use Rattle.s161_base.proofs.Failing.{boot_failed, refused}
 use Rattle.s161_base.specs.Faults.{fault_of_boot}
 use Rattle.s161_base.specs.declared.fault.Fault.{Fault}
 use Rattle.s161_base.specs.declared.fault.Fault.TheVariants.{After, Conf, File, Image, Input, Log, LogImage, LogMachine, Memory, Never, Output, Schedule, Source, Threads, Touches, Watch, Watches, Word}
@@ -38,28 +38,28 @@ use Rattle.s161_search.specs.Runs.{IsRunFault}
 -- Why a search ends early.
 
 -- a boot's answer
-boot_failed : (given : Given) (x : BootError) → (boot_fault given.file given.conf ≡ Some x) ⊎ (x ≡ BootError.NoMemory) →
-    IsBareFault given (fault_of_boot x)
-boot_failed given x h =
-    boot_fails (IsBareFault given) (Some given.file) given.conf given.file x refl (λ outside. outside)
-    (λ e has. subst (λ file. boot_fault file given.conf ≡ Some (BootError.Load e)) has.1 has.2) tt h
+bare_failed : (given : Given) (x : BootError) → (boot_fault given.file given.conf ≡ Some x) ⊎ (x ≡ BootError.NoMemory) →
+    IsBareFault given (fault_of_boot given.file given.conf.ram x)
+bare_failed given x h =
+    boot_failed (IsBareFault given) given.file given.conf (fault_of_boot given.file given.conf.ram x) (λ outside. outside) (λ why is. is) tt
+    (refused given.file given.conf x h)
 
 -- a machine that isn't booted
 pub unbooted : (given : Given) (fault : Option BootError) (e : AuditError) →
-    boot_fault given.file given.conf ≡ fault → BootsState given.file given.conf fault (Err e) → IsBareFault given (fault_of_audit e)
+    boot_fault given.file given.conf ≡ fault → BootsState given.file given.conf fault (Err e) → IsBareFault given (fault_of_audit given.file given.conf.ram e)
 unbooted given (Some first) (audit.Boot x) has h =
     let same : first ≡ x = cc in
-    boot_failed given x (inl (has ∙ ap (λ e. Some e) same))
+    bare_failed given x (inl (has ∙ ap (λ e. Some e) same))
 unbooted given (Some first) (audit.BadWatch k) has h = absurd cc
-unbooted given None (audit.Boot x) has h = let same : x ≡ BootError.NoMemory = cc in boot_failed given x (inr same)
+unbooted given None (audit.Boot x) has h = let same : x ≡ BootError.NoMemory = cc in bare_failed given x (inr same)
 unbooted given None (audit.BadWatch k) has h = absurd cc
 
 -- a run of which nothing can be kept
 pub unkept : (given : Given) (s : State) (fault : Option BootError) (watches : List WatchOf) (e : AuditError) →
     watches ≡ given.watches → boot_fault given.file given.conf ≡ fault → BootsState given.file given.conf fault (Ok s) →
-    IsUnjudged s.conf watches e → IsBareFault given (fault_of_audit e)
+    IsUnjudged s.conf watches e → IsBareFault given (fault_of_audit given.file given.conf.ram e)
 unkept given s (Some first) watches e same has boots h = absurd boots
-unkept given s None watches (audit.Boot x) same has boots h = boot_failed given x (inr h)
+unkept given s None watches (audit.Boot x) same has boots h = bare_failed given x (inr h)
 unkept given s None watches (audit.BadWatch k) same has boots h =
     let conf : s.conf ≡ given.conf = ap (λ (x : State). x.conf) boots.state_is ∙ boots.conf_is in
     let bad = subst (λ ws. IsUnjudged given.conf ws (audit.BadWatch k)) same
@@ -69,12 +69,12 @@ unkept given s None watches (audit.BadWatch k) same has boots h =
 -- of what was read alone
 pub judge_failed : (given : Given) (events : List Event) (fault : Option BootError) (e : AuditError) →
     boot_fault given.file given.conf ≡ fault → Judges given.file given.conf fault events (criteria_of given) (Err e) →
-    IsBareFault given (fault_of_audit e)
+    IsBareFault given (fault_of_audit given.file given.conf.ram e)
 judge_failed given events (Some first) (audit.Boot x) has h =
     let same : first ≡ x = cc in
-    boot_failed given x (inl (has ∙ ap (λ e. Some e) same))
+    bare_failed given x (inl (has ∙ ap (λ e. Some e) same))
 judge_failed given events (Some first) (audit.BadWatch k) has h = absurd cc
-judge_failed given events None (audit.Boot x) has h = boot_failed given x (inr h)
+judge_failed given events None (audit.Boot x) has h = bare_failed given x (inr h)
 judge_failed given events None (audit.BadWatch k) has h = (has, h.0, h.1)
 
 pub judged_good : (given : Given) (events : List Event) (fault : Option BootError) (judged : Option Judged) →

@@ -1,5 +1,4 @@
-use Rattle.std.proofs.Common.{◌≡◌, ◌∙◌, ℕ, List, false, Option, None, Some, IfSome, Err, ap, inl, inr, refl}
-use Rattle.m161_elf.specs.declared.image.LoadError.{LoadError}
+use Rattle.std.proofs.Common.{◌≡◌, ◌⊎◌, ◌∙◌, ℕ, List, false, Option, None, Some, Err, ap, inl, inr, refl}
 use Rattle.m161_machine.specs.declared.conf.BootError.{BootError}
 use Rattle.m161_machine.specs.declared.conf.Conf.{Conf as MachineConf}
 use Rattle.m161_machine.specs.declared.event.Event.{Event}
@@ -12,9 +11,11 @@ use Rattle.m161_audit.specs.Audit.{Audits}
 use Rattle.m161_audit.specs.Watch.{AreGood, IsBad}
 use Rattle.m161_audit.specs.WatchText.{AreWatchLines}
 use Rattle.m161_text.specs.Lines.{FirstBad}
-use Rattle.s161_base.proofs.Failing.{HasFault, boot_fails}
+use Rattle.s161_base.proofs.Failing.{boot_failed, refused}
 use Rattle.s161_base.specs.declared.fault.Fault.{Fault}
 use Rattle.s161_base.specs.declared.fault.Fault.TheVariants.{After, Conf, File, Image, Input, Log, LogImage, LogMachine, Memory, Never, Output, Schedule, Source, Threads, Touches, Watch, Watches, Word}
+use Rattle.s161_base.specs.declared.fault.Unloaded.{Unloaded}
+use Rattle.s161_base.specs.Faults.{fault_of_boot, IsUnloaded}
 use Rattle.s161_search.specs.Audits.{fault_of_audit, IsWatchesFault}
 
 -- Why an audit ends early: `P` is what is said of its fault.
@@ -41,25 +42,19 @@ watches_failed P text LogImage line memory h = absurd h
 watches_failed P text Output line memory h = absurd h
 watches_failed P text (Source e) line memory h = absurd h
 
--- the image's bytes, as far as they are known, can be booted
-abbrev pub HasNone : Option (List ℕ) → MachineConf → Type 0
-HasNone image conf = (file : List ℕ) × IfSome image (λ bytes. file ≡ bytes) × (boot_fault file conf ≡ None)
+module _ (P : Fault → Type 0) (conf : MachineConf) (file : List ℕ) (events : List Event) (watched : List Watched)
+    (limits : is_within_limits conf ≡ false → P Conf) (image : (why : Unloaded) → IsUnloaded file conf why → P (Image why)) (memory : P Memory)
+    (watch : (k : ℕ) → boot_fault file conf ≡ None → IsBad conf.ram watched k × AreGood conf.ram watched k → P (Watch k)) where
+  boot_fails : (x : BootError) → (boot_fault file conf ≡ Some x) ⊎ (x ≡ BootError.NoMemory) → P (fault_of_boot file conf.ram x)
+  boot_fails x h = boot_failed P file conf (fault_of_boot file conf.ram x) limits image memory (refused file conf x h)
 
-audit_fails : (P : Fault → Type 0) (image : Option (List ℕ)) (conf : MachineConf) (file : List ℕ) (events : List Event) (watched : List Watched) (e : AuditError) → IfSome image (λ bytes. file ≡ bytes) →
-    (is_within_limits conf ≡ false → P Conf) → ((x : LoadError) → HasFault image conf x → P (Image x)) → P Memory →
-    ((k : ℕ) → HasNone image conf → IsBad conf.ram watched k × AreGood conf.ram watched k → P (Watch k)) →
-    (fault : Option BootError) → boot_fault file conf ≡ fault → Audits file conf fault events watched (Err e) → P (fault_of_audit e)
-audit_fails P image conf file events watched (audit.Boot x) is limits load memory watch (Some first) has h =
-    boot_fails P image conf file x is limits load memory (inl (has ∙ ap (λ e. Some e) (let same : first ≡ x = cc in same)))
-audit_fails P image conf file events watched (audit.BadWatch k) is limits load memory watch (Some first) has h = absurd (cc)
-audit_fails P image conf file events watched (audit.Boot x) is limits load memory watch None has h =
-    boot_fails P image conf file x is limits load memory (inr h)
-audit_fails P image conf file events watched (audit.BadWatch k) is limits load memory watch None has h = watch k (file, is, has) h
+  audit_fails : (e : AuditError) (fault : Option BootError) → boot_fault file conf ≡ fault → Audits file conf fault events watched (Err e) →
+      P (fault_of_audit file conf.ram e)
+  audit_fails (audit.Boot x) (Some first) has h = boot_fails x (inl (has ∙ ap (λ e. Some e) (let same : first ≡ x = cc in same)))
+  audit_fails (audit.BadWatch k) (Some first) has h = absurd (cc)
+  audit_fails (audit.Boot x) None has h = boot_fails x (inr h)
+  audit_fails (audit.BadWatch k) None has h = watch k has h
 
--- an audit's, which boots first
-pub audit_failed : (P : Fault → Type 0) (image : Option (List ℕ)) (conf : MachineConf) (file : List ℕ) (events : List Event) (watched : List Watched) (e : AuditError) → IfSome image (λ bytes. file ≡ bytes) →
-    (is_within_limits conf ≡ false → P Conf) → ((x : LoadError) → HasFault image conf x → P (Image x)) → P Memory →
-    ((k : ℕ) → HasNone image conf → IsBad conf.ram watched k × AreGood conf.ram watched k → P (Watch k)) →
-    Audits file conf (boot_fault file conf) events watched (Err e) → P (fault_of_audit e)
-audit_failed P image conf file events watched e is limits load memory watch h =
-    audit_fails P image conf file events watched e is limits load memory watch (boot_fault file conf) refl h
+  -- an audit's, which boots first
+  pub audit_failed : (e : AuditError) → Audits file conf (boot_fault file conf) events watched (Err e) → P (fault_of_audit file conf.ram e)
+  audit_failed e h = audit_fails e (boot_fault file conf) refl h

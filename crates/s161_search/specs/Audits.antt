@@ -1,5 +1,4 @@
 use Rattle.std.specs.Prelude.{◌≡◌, ◌⊎◌, ℕ, false, List, [], ◌∷◌, ◌++◌, length, Option, None, Some, Ok, IfSome, codes, decimal}
-use Rattle.m161_machine.specs.declared.conf.BootError.TheVariants.{Load}
 use Rattle.m161_machine.specs.declared.conf.Conf.{Conf as MachineConf}
 use Rattle.m161_machine.specs.declared.event.Event.{Event}
 use Rattle.m161_machine.specs.Conf.{is_within_limits}
@@ -25,7 +24,7 @@ use Rattle.s161_base.specs.declared.fault.Fault.TheVariants.{Conf, File, Image, 
 use Rattle.s161_base.specs.Known.{IsText, OfText}
 use Rattle.s161_base.specs.Listed.{IsListFault, ListsFor, OfListed, OfUnlisted}
 use Rattle.s161_base.specs.Reading.{IsOfBytes, IsOfText}
-use Rattle.s161_base.specs.Faults.{fault_of_boot}
+use Rattle.s161_base.specs.Faults.{fault_of_boot, IsUnloaded}
 use Rattle.s161_base.specs.Samples.{IsFileName}
 
 -- The output and the exit status of `audit`.
@@ -97,10 +96,10 @@ pub record IsAudited
   pub told_is : told ≡ note_text refused
   pub status_is : status ≡ status_of_finding finding
 
--- why a run isn't audited
-abbrev pub fault_of_audit : AuditError → Fault
-fault_of_audit (audit.Boot e) = fault_of_boot e
-fault_of_audit (audit.BadWatch k) = Watch k
+-- why the run of this file in `ram` bytes of RAM isn't audited
+abbrev pub fault_of_audit : List ℕ → ℕ → AuditError → Fault
+fault_of_audit file ram (audit.Boot e) = fault_of_boot file ram e
+fault_of_audit file ram (audit.BadWatch k) = Watch k
 
 -- a text isn't one of watches, by its first bad line; or memory was refused
 abbrev pub IsWatchesFault : List ℕ → Fault → Type 0
@@ -140,9 +139,8 @@ IsAuditFault task image watches input LogImage =
 IsAuditFault task image watches input Conf =
     HasWatches watches
     × OfListed task.size image input (λ file conf. is_within_limits conf ≡ false)
-IsAuditFault task image watches input (Image e) =
-    HasWatches watches
-    × OfListed task.size image input (λ file conf. boot_fault file conf ≡ Some (Load e))
+IsAuditFault task image watches input (Image why) =
+    HasWatches watches × OfListed task.size image input (λ file conf. IsUnloaded file conf why)
 IsAuditFault task image watches input (Watch k) =
     OfWatches watches (λ watched. OfListed task.size image input (λ file conf.
     (boot_fault file conf ≡ None) × IsBad conf.ram watched k × AreGood conf.ram watched k))

@@ -1,8 +1,7 @@
-use Rattle.std.specs.Prelude.{◌≡◌, ℕ, Bool, false, not, List, length, None, Some}
+use Rattle.std.specs.Prelude.{◌≡◌, ℕ, Bool, false, not, List, length, None}
 use Rattle.m161_audit.specs.Watch.{AreGood, IsBad}
 use Rattle.m161_judge.specs.declared.run.JudgedRun.{JudgedRun}
 use Rattle.m161_judge.specs.Verdict.{IsJudged, has_keys, is_stuck}
-use Rattle.m161_machine.specs.declared.conf.BootError.TheVariants.{Load}
 use Rattle.m161_machine.specs.declared.event.Entry.{Entry}
 use Rattle.m161_machine.specs.Conf.{is_within_limits}
 use Rattle.m161_machine.specs.History.{IsBootState, boot_fault, events_of}
@@ -10,6 +9,7 @@ use Rattle.m161_machine.specs.State.{State}
 use Rattle.m161_order.specs.declared.order.Order.{Order}
 use Rattle.s161_base.specs.declared.fault.Fault.{Fault}
 use Rattle.s161_base.specs.declared.fault.Fault.TheVariants.{After, Conf, Image, Memory, Watch}
+use Rattle.s161_base.specs.Faults.{IsUnloaded}
 use Rattle.s161_command.specs.declared.task.SearchTask.{SearchTask}
 use Rattle.s161_run.specs.declared.events.RunStop.{RunStop}
 use Rattle.s161_run.specs.declared.events.RunStop.TheVariants.{Off, Conflict, End, Stuck, Refused}
@@ -65,7 +65,7 @@ pub record IsBehindFirst (given : Given) (u : State) : Type 0 where
 -- Memory holds whatever else is
 abbrev pub IsRunFault : Given → Fault → Type 0
 IsRunFault given Conf = is_within_limits given.conf ≡ false
-IsRunFault given (Image e) = boot_fault given.file given.conf ≡ Some (Load e)
+IsRunFault given (Image why) = IsUnloaded given.file given.conf why
 IsRunFault given (Watch k) =
     (boot_fault given.file given.conf ≡ None)
     × IsBad given.conf.ram given.watches k × AreGood given.conf.ram given.watches k

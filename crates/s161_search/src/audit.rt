@@ -14,7 +14,7 @@ use m161_audit::{AuditError, Finding, audit_events};
 use m161_machine::{Conf, Events};
 use m161_refusals::{Refusals, find_refusals};
 use m161_text::Word;
-use s161_base::fault::Fault;
+use s161_base::fault::{Fault, fault_of_boot};
 use s161_base::files::FileSource;
 use s161_base::finished::Finished;
 use s161_base::input::{read_input, read_text};
@@ -152,7 +152,7 @@ pub fn audit<'a, F: FileSource, I: Read>(
     let Planned { events, conf } = run;
     let finding = match audit_events::<Tlb, Console>(alloc, &file, conf, &events, &watches) {
         Ok(finding) => finding,
-        Err(error) => return Err(fault_of_audit(error)),
+        Err(error) => return Err(fault_of_audit(error, &file, conf.ram)),
     };
     let line = finding_line(alloc, finding)?;
     *said = note_of(alloc, &file, conf, &events, finding)?;
@@ -215,12 +215,12 @@ fn note_of(
     }
 }
 
-/// The fault of a run that isn't audited.
-pub fn fault_of_audit<'a>(error: AuditError) -> Fault<'a>
-    ensures { result ≡ fault_of_audit error }
+/// The fault of a run of this file, in `ram` bytes of RAM, that isn't audited.
+pub fn fault_of_audit<'a>(error: AuditError, file: &[u8], ram: u32) -> Fault<'a>
+    ensures { result ≡ fault_of_audit file.now ram error }
 {
     match error {
-        AuditError::Boot(error) => Fault::from(error),
+        AuditError::Boot(error) => fault_of_boot(error, file, ram),
         AuditError::BadWatch(k) => Fault::Watch(k),
     }
 }

@@ -34,7 +34,7 @@ pub(crate) fn check_watches<'a>(
 {
     match judge_events(alloc, booted, &[], &inputs.goal()) {
         Ok(_) => Ok(()),
-        Err(error) => Err(fault_of_audit(error)),
+        Err(error) => Err(fault_of_audit(error, &inputs.file, inputs.first.conf.ram)),
     }
 }
 

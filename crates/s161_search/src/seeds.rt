@@ -75,7 +75,7 @@ pub(crate) fn boot<'a>(alloc: Global, inputs: &Inputs) -> Result<Booted<Tlb, Con
 {
     match Booted::new(alloc, &inputs.file, inputs.first.conf) {
         Ok(booted) => Ok(booted),
-        Err(error) => Err(fault_of_audit(error)),
+        Err(error) => Err(fault_of_audit(error, &inputs.file, inputs.first.conf.ram)),
     }
 }
 

@@ -44,7 +44,7 @@ fn start_steps<'a>(
 {
     match StepMemory::new(alloc, booted, &inputs.goal()) {
         Ok(steps) => Ok(steps),
-        Err(error) => Err(fault_of_audit(error)),
+        Err(error) => Err(fault_of_audit(error, &inputs.file, inputs.first.conf.ram)),
     }
 }
 

@@ -1,10 +1,9 @@
-use Rattle.std.proofs.Common.{◌≡◌, ◌∙◌, List, ℕ, [], ◌∷◌, false, Ok, Option, None, Some, IfSome, refl, rules, subst, sym}
+use Rattle.std.proofs.Common.{◌≡◌, ◌∙◌, ap, List, ℕ, [], ◌∷◌, false, Ok, Option, None, IfSome, rules, subst, sym}
 use Rattle.std.proofs.lemmas.Result.{err_from_is_err_and}
 use Rattle.m161_audit.specs.declared.watch.Watch.{Watch as Watched}
 use Rattle.m161_audit.specs.Audit.{Audits}
 use Rattle.m161_audit.specs.Watch.{AreGood, IsBad}
 use Rattle.m161_audit.specs.WatchText.{AreWatches}
-use Rattle.m161_machine.specs.declared.conf.BootError.TheVariants.{Load}
 use Rattle.m161_machine.specs.declared.conf.Conf.{Conf}
 use Rattle.m161_machine.specs.Conf.{is_within_limits}
 use Rattle.m161_machine.specs.History.{boot_fault}
@@ -17,7 +16,8 @@ use Rattle.s161_search.proofs.Asking.{audit_is_none}
 use Rattle.s161_search.proofs.Unaudited.{audit_failed, watches_failed}
 use Rattle.s161_base.proofs.Listing.{unlisted_is_none}
 use Rattle.s161_run.proofs.Listing.{unlisted_by}
-use Rattle.s161_search.specs.Audits.{AreRefused, HasWatches, IsAuditFault, audit_files}
+use Rattle.s161_search.specs.Audits.{AreRefused, HasWatches, IsAuditFault, audit_files, fault_of_audit}
+use Rattle.s161_base.specs.Faults.{IsUnloaded}
 use Rattle.s161_base.specs.Known.{IsText}
 use Rattle.s161_base.specs.Listed.{ListsFor, OfListed}
 use Rattle.s161_base.specs.Samples.{image_file}
@@ -130,9 +130,9 @@ returns-in-Err-clause-fault g c =
     let watched = c.deref-3.result.now in
     let are_watches = subst S (sym c.deref-3.ensures.value) c.in_ok-watches.ensures.found in
     let watches : HasWatches text = (c.as_str.result.now, is_watches, (utf8_watches, (watched, are_watches, tt))) in
-    let failed = audit_failed (IsAuditFault c.args.task image text input) (Some file) conf file events watched c.in-Err.error refl
+    let failed = audit_failed (IsAuditFault c.args.task image text input) conf file events watched
     (λ outside. (watches, listed (λ f k. is_within_limits k ≡ false) outside))
-    (λ e has. (watches, listed (λ f k. boot_fault f k ≡ Some (Load e)) (subst (λ f. boot_fault f conf ≡ Some (Load e)) has.1 has.2)))
+    (λ why is_so. (watches, listed (λ f k. IsUnloaded f k why) is_so))
     tt
     (λ k has bad. (
       c.as_str.result.now,
@@ -142,12 +142,14 @@ returns-in-Err-clause-fault g c =
         (
           watched,
           are_watches,
-          listed (λ f x. (boot_fault f x ≡ None) × IsBad x.ram watched k × AreGood x.ram watched k) (subst (λ f. boot_fault f conf ≡ None) has.1 has.2, bad.0, bad.1),
+          listed (λ f x. (boot_fault f x ≡ None) × IsBad x.ram watched k × AreGood x.ram watched k) (has, bad.0, bad.1),
         ),
       ),
     ))
-    c.in-Err.ensures in
-    subst (IsAuditFault c.args.task image text input) (sym c.fault_of_audit.ensures) failed
+    c.in-Err.error c.in-Err.ensures in
+    let told : c.fault_of_audit.result ≡ fault_of_audit file conf.ram c.in-Err.error =
+    c.fault_of_audit.ensures ∙ ap (λ f. fault_of_audit f conf.ram c.in-Err.error) (c.deref-in-Err.ensures.value ∙ sym c.deref-2.ensures.value) in
+    subst (IsAuditFault c.args.task image text input) (sym told) failed
 
 pub returns-in_err-file-clause-asks : goal.returns-in_err-file-clause-asks
 returns-in_err-file-clause-asks g c =
@@ -232,12 +234,12 @@ returns-in-Err-clause-asks g c =
     let asked = g.F.FileSource.asked in
     let all = asks_both (image_files c.args.task.image.now) (c.args.task.text.now ∷ []) (asked c.args.files.now) (asked c.read_image.new.files) (asked c.read_text.new.files) c.in_ok-file.ensures.asks c.in_ok-text.ensures.asks in
     after_all (audit_files c.args.task) (asked c.args.files.now) (asked c.read_text.new.files) c.fault_of_audit.result all
-    (subst IsNoFile (sym c.fault_of_audit.ensures) (audit_is_none c.in-Err.error))
+    (subst IsNoFile (sym c.fault_of_audit.ensures) (audit_is_none c.deref-in-Err.result.now c.in_ok-run.run'.conf.ram c.in-Err.error))
 
 pub returns-in-Err-clause-unread : goal.returns-in-Err-clause-unread
 returns-in-Err-clause-unread g c =
     none_before c.fault_of_audit.result (g.I.Read.remaining c.args.input.now) (g.I.Read.remaining c.read_input.new.input)
-    (subst IsNoFile (sym c.fault_of_audit.ensures) (audit_is_none c.in-Err.error))
+    (subst IsNoFile (sym c.fault_of_audit.ensures) (audit_is_none c.deref-in-Err.result.now c.in_ok-run.run'.conf.ram c.in-Err.error))
 
 pub returns-in_err-line-clause-asks : goal.returns-in_err-line-clause-asks
 returns-in_err-line-clause-asks g c =

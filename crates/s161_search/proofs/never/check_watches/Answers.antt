@@ -1,7 +1,8 @@
-use Rattle.std.proofs.Common.{[], Err, Ok, refl, subst, sym}
+use Rattle.std.proofs.Common.{◌∙◌, ◌≡◌, ap, [], Err, Ok, refl, subst, sym}
 use Rattle.m161_judge.specs.Judge.{Judges}
 use Rattle.m161_machine.specs.History.{boot_fault}
 use Rattle.s161_search.specs.helpers.Inputs.{given_of}
+use Rattle.s161_search.specs.Audits.{fault_of_audit}
 use Rattle.s161_search.specs.helpers.Begun.{IsBareFault}
 use Rattle.s161_search.proofs.Failing.{judge_failed, judged_good}
 use Rattle.s161_search.proofs.never.check_watches.Goals as goal
@@ -18,7 +19,9 @@ pub returns-in-Err-clause-fault : goal.returns-in-Err-clause-fault
 returns-in-Err-clause-fault c =
     let given = given_of c.args.inputs.now in
     let conf = given.conf in
-    subst (IsBareFault given) (sym c.fault_of_audit.ensures)
+    let told : c.fault_of_audit.result ≡ fault_of_audit given.file given.conf.ram c.in-Err.error =
+    c.fault_of_audit.ensures ∙ ap (λ file. fault_of_audit file given.conf.ram c.in-Err.error) c.deref.ensures.value in
+    subst (IsBareFault given) (sym told)
     (judge_failed given [] (boot_fault given.file conf) c.in-Err.error refl
     (subst (λ g. Judges given.file conf (boot_fault given.file conf) [] g (Err c.in-Err.error)) c.goal.ensures
     (c.in-Err.ensures given.file conf c.requires)))
