@@ -10,6 +10,7 @@ use Rattle.s161_command.specs.declared.task.ListingTask.{ListingTask}
 use Rattle.s161_base.specs.Naming.{style_of}
 use Rattle.s161_base.specs.declared.fault.Fault.{Fault}
 use Rattle.s161_base.specs.declared.fault.Fault.TheVariants.{Image, Memory}
+use Rattle.s161_base.specs.declared.fault.Unloaded.TheVariants.{Load}
 
 -- The listing of a file: the instructions that its segments leave in memory.
 
@@ -51,6 +52,6 @@ pub record IsDisassembled
 
 -- a file has no listing: it has this first fault; or it has no fault, and memory was refused
 abbrev pub IsUnlisted : List ℕ → Fault → Type 0
-IsUnlisted file (Image e) = first_fault file dis_ram ≡ Some e
+IsUnlisted file (Image (Load e)) = first_fault file dis_ram ≡ Some e
 IsUnlisted file Memory = first_fault file dis_ram ≡ None
 IsUnlisted file _ = ⊥
