@@ -1,6 +1,6 @@
 //! Tests of the program's commands, of the assembler and of the debugger. `behind`, `program`, `run`,
-//! `sample`, `faulty`, `going`, `over_files`, `prompt`, `texts`, `traps` and `units` try the commands, over the
-//! streams of `streams`.
+//! `sample`, `faulty`, `going`, `over_files`, `prompt`, `segments`, `texts`, `traps` and `units` try the commands,
+//! over the streams of `streams`.
 
 mod asm;
 mod behind;
@@ -12,6 +12,7 @@ mod program;
 mod prompt;
 mod run;
 mod sample;
+mod segments;
 mod streams;
 mod texts;
 mod traps;

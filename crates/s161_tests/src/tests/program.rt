@@ -4,7 +4,8 @@ use super::same;
 use super::streams::{FREE, Left, Memory, NoFiles, all};
 use m161_elf::LoadError;
 use m161_machine::BootError;
-use s161_base::fault::{Fault, Unread};
+use m161_segments::OutsideRam;
+use s161_base::fault::{Fault, Unloaded, Unread, fault_of_boot};
 use s161_work::work::{start, work};
 use std::process::Abort;
 use std::sync::Wait;
@@ -249,7 +250,7 @@ fn fault_texts(rt: HostRuntime) -> Result<(), Fail> {
         ),
         (Fault::Conf, CONF_LINE),
         (
-            Fault::Image(LoadError::Truncated),
+            Fault::Image(Unloaded::Load(LoadError::Truncated)),
             "s161: image 1 Truncated (the file is shorter than an ELF header)",
         ),
         (Fault::Memory, "s161: memory"),
@@ -258,12 +259,24 @@ fn fault_texts(rt: HostRuntime) -> Result<(), Fail> {
             "s161: input (at most 402653184 bytes are read)",
         ),
         (Fault::Output, "s161: output"),
-        (Fault::from(BootError::BadConf), CONF_LINE),
+        (fault_of_boot(BootError::BadConf, &[], 4096), CONF_LINE),
         (
-            Fault::from(BootError::Load(LoadError::BadEntry)),
+            fault_of_boot(BootError::Load(LoadError::BadEntry), &[], 4096),
             "s161: image 9 BadEntry (the entry isn't a multiple of 4 in RAM, by kseg0 or by kseg1)",
         ),
-        (Fault::from(BootError::NoMemory), "s161: memory"),
+        (
+            Fault::Image(Unloaded::Segment(OutsideRam {
+                header: 65_534,
+                size: 4_294_967_295,
+                address: 0x0abc_def0,
+                ram: 16_777_216,
+            })),
+            "s161: image 7 SegmentOutsideRam (program header 65534, 4294967295 bytes from 0abcdef0 on, not all in RAM of 16777216 bytes in kseg0 or kseg1)",
+        ),
+        (
+            fault_of_boot(BootError::NoMemory, &[], 4096),
+            "s161: memory",
+        ),
     ] {
         let found = format!(in rt.alloc(); "{fault}")?;
         same(&rt, found.as_str(), text);

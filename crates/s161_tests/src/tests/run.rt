@@ -450,7 +450,7 @@ static FAULTS: [Case; 8] = [
         schedule: "",
         status: 1,
         output: &[],
-        errors: "s161: image 7 SegmentOutsideRam (a segment isn't in RAM, by kseg0 or by kseg1)\n",
+        errors: "s161: image 7 SegmentOutsideRam (program header 0, 4000 bytes from 80000200 on, not all in RAM of 4096 bytes in kseg0 or kseg1)\n",
     },
     Case {
         words: &["s161", "run", "image", "--ram", "0"],
