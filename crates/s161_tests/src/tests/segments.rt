@@ -25,34 +25,13 @@ const ELF_HEADER: [u32; 10] = [
 
 /// A program header: its type, its address, and its sizes in the file and in memory. Its bytes in the file
 /// are the file's own first ones.
-#[derive(Clone, Copy)]
-struct Header {
-    kind: u32,
-    address: u32,
-    in_file: u32,
-    in_memory: u32,
-}
-
-/// A header of a segment to load, with no bytes in the file.
-const fn load(address: u32, in_memory: u32) -> Header {
-    Header {
-        kind: 1,
-        address,
-        in_file: 0,
-        in_memory,
-    }
-}
+type Header = [u32; 4];
 
 /// A segment that is in every RAM.
-const SOUND: Header = load(0x8000_0200, 16);
+const SOUND: Header = [1, 0x8000_0200, 0, 16];
 
 /// PT_NOTE, at an address in kuseg.
-const NOTE: Header = Header {
-    kind: 4,
-    address: 0,
-    in_file: 20,
-    in_memory: 20,
-};
+const NOTE: Header = [4, 0, 20, 20];
 
 /// The file of these program headers.
 fn file_of(rt: &impl AllocGlobal, headers: &[Header]) -> Result<Vec<u8>, Fail> {
@@ -60,18 +39,23 @@ fn file_of(rt: &impl AllocGlobal, headers: &[Header]) -> Result<Vec<u8>, Fail> {
     for word in ELF_HEADER {
         file.extend_from_slice(&word.to_be_bytes())?;
     }
-    file.extend_from_slice(&[0, 0x34, 0, 0x20, 0, headers.len() as u8, 0, 0, 0, 0, 0, 0])?;
+    file.extend_from_slice(&[
+        0,
+        0x34,
+        0,
+        0x20,
+        0,
+        (headers.len() % 256) as u8,
+        0,
+        0,
+        0,
+        0,
+        0,
+        0,
+    ])?;
     for header in headers {
-        for word in [
-            header.kind,
-            0,
-            header.address,
-            header.address,
-            header.in_file,
-            header.in_memory,
-            7,
-            4,
-        ] {
+        let [kind, address, in_file, in_memory] = *header;
+        for word in [kind, 0, address, address, in_file, in_memory, 7, 4] {
             file.extend_from_slice(&word.to_be_bytes())?;
         }
     }
@@ -89,62 +73,53 @@ struct Case {
 static CASES: [Case; 8] = [
     // the end is past RAM
     Case {
-        headers: &[load(0x8000_0ffd, 4)],
+        headers: &[[1, 0x8000_0ffd, 0, 4]],
         status: 1,
         output: &[],
         errors: "s161: image 7 SegmentOutsideRam (program header 0, 4 bytes from 80000ffd on, not all in RAM of 4096 bytes in kseg0 or kseg1)\n",
     },
     Case {
-        headers: &[load(0x8000_0ffc, 4)],
+        headers: &[[1, 0x8000_0ffc, 0, 4]],
         status: 3,
         output: &[AT_ENTRY, "stop: end\n"],
         errors: "",
     },
     // the first is sound
     Case {
-        headers: &[SOUND, load(0xa000_0fff, 2)],
+        headers: &[SOUND, [1, 0xa000_0fff, 0, 2]],
         status: 1,
         output: &[],
         errors: "s161: image 7 SegmentOutsideRam (program header 1, 2 bytes from a0000fff on, not all in RAM of 4096 bytes in kseg0 or kseg1)\n",
     },
     // the first of two
     Case {
-        headers: &[SOUND, load(0x8000_1000, 1), load(0x8000_2000, 3)],
+        headers: &[SOUND, [1, 0x8000_1000, 0, 1], [1, 0x8000_2000, 0, 3]],
         status: 1,
         output: &[],
         errors: "s161: image 7 SegmentOutsideRam (program header 1, 1 bytes from 80001000 on, not all in RAM of 4096 bytes in kseg0 or kseg1)\n",
     },
     // a header of another type is counted, and is never at fault
     Case {
-        headers: &[
-            NOTE,
-            SOUND,
-            Header {
-                kind: 1,
-                address: 0x8000_0ff0,
-                in_file: 4,
-                in_memory: 32,
-            },
-        ],
+        headers: &[NOTE, SOUND, [1, 0x8000_0ff0, 4, 32]],
         status: 1,
         output: &[],
         errors: "s161: image 7 SegmentOutsideRam (program header 2, 32 bytes from 80000ff0 on, not all in RAM of 4096 bytes in kseg0 or kseg1)\n",
     },
     Case {
-        headers: &[NOTE, load(0, 0), SOUND],
+        headers: &[NOTE, [1, 0, 0, 0], SOUND],
         status: 3,
         output: &[AT_ENTRY, "stop: end\n"],
         errors: "",
     },
     // kuseg, and the largest numbers
     Case {
-        headers: &[load(0x0040_0000, 8)],
+        headers: &[[1, 0x0040_0000, 0, 8]],
         status: 1,
         output: &[],
         errors: "s161: image 7 SegmentOutsideRam (program header 0, 8 bytes from 00400000 on, not all in RAM of 4096 bytes in kseg0 or kseg1)\n",
     },
     Case {
-        headers: &[load(0xffff_ffff, 0xffff_ffff)],
+        headers: &[[1, 0xffff_ffff, 0, 0xffff_ffff]],
         status: 1,
         output: &[],
         errors: "s161: image 7 SegmentOutsideRam (program header 0, 4294967295 bytes from ffffffff on, not all in RAM of 4096 bytes in kseg0 or kseg1)\n",
@@ -221,7 +196,7 @@ static COMMANDS: [(&[&str], &str); 12] = [
 fn commands_name_the_segment(rt: HostRuntime) -> Result<(), Fail> {
     let line =
         "s161: image 7 SegmentOutsideRam (program header 1, 4 bytes from 80000ffd on, not all in RAM of 4096 bytes in kseg0 or kseg1)\n";
-    let image = file_of(&rt, &[SOUND, load(0x8000_0ffd, 4)])?;
+    let image = file_of(&rt, &[SOUND, [1, 0x8000_0ffd, 0, 4]])?;
     for (words, text) in &COMMANDS {
         check(&rt, words, &image, text, (1, "", line));
     }
