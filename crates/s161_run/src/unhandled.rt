@@ -39,6 +39,8 @@ fn spans_of(alloc: Global, file: &[u8], ram: u32) -> Result<Vec<Span>, AllocErro
 }
 
 // The state at boot of a file without a fault, once more.
+// For LLVM: a stack frame of its own.
+#[inline(never)]
 fn boot_again(alloc: Global, file: &[u8], conf: Conf) -> Result<Core, AllocError>
     ensures { IfOk result (λ core. IsBootState file.now conf core.state) }
 {
@@ -125,6 +127,8 @@ fn look_chosen(
 ///
 /// # Errors
 /// Memory was refused.
+// For LLVM: a stack frame of its own.
+#[inline(never)]
 pub(crate) fn unhandled_listed(
     alloc: Global,
     file: &[u8],
@@ -151,6 +155,8 @@ pub(crate) fn unhandled_listed(
 ///
 /// # Errors
 /// Memory was refused.
+// For LLVM: a stack frame of its own.
+#[inline(never)]
 pub(crate) fn unhandled_chosen(
     alloc: Global,
     file: &[u8],

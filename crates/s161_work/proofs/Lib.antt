@@ -1,3 +1,4 @@
 mod Asking
 mod Assembling
 mod Refusals
+mod Finishing

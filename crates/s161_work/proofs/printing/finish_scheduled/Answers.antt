@@ -3,7 +3,19 @@ use Rattle.std.proofs.lemmas.Result.{IfErr-weaker}
 use Rattle.s161_base.proofs.Asking.{IsNoFile, memory_is_none, none_before, result_asks}
 use Rattle.s161_base.specs.Asked.{IsBeforeInput, image_files}
 use Rattle.s161_base.specs.declared.fault.Fault.TheVariants.{Memory}
+use Rattle.std.specs.Prelude.{string_bytes}
+use Rattle.s161_base.specs.Samples.{image_file}
+use Rattle.s161_run.specs.Runs.{IsRun}
+use Rattle.s161_work.proofs.Finishing.{of_run}
 use Rattle.s161_work.proofs.printing.finish_scheduled.Goals as goal
+
+pub returns-clause-ok : goal.returns-clause-ok
+returns-clause-ok g c =
+    let files = g.F.FileSource.known c.args.files.now in
+    let ran = c.in_ok-ran.ran in
+    let done = c.finish_run.ensures in
+    of_run c.args.task.shown (IsRun c.args.task (image_file files c.args.task.image.now) (g.I.Read.remaining c.args.input.now)) ran.text.items (string_bytes ran.notes)
+    (string_bytes c.finish_run.new.said) ran.stop c.finish_run.result c.in_ok-ran.ensures.ok done.text done.status done.said
 
 -- the file was asked for
 pub returns-clause-asks : goal.returns-clause-asks
