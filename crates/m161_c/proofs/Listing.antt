@@ -1,5 +1,5 @@
 use Rattle.std.proofs.Common.{◌≡◌, ◌⊎◌, inl, inr, ap, refl, sym, subst, ℕ, ◌<◌, ◌≤◌, Bool, List, [], ◌∷◌, length, arith}
-use Rattle.std.specs.Prelude.{Option, None, Some, Result, Ok, Err, slice_get}
+use Rattle.std.specs.Prelude.{Option, None, Some, slice_get}
 use Rattle.m161_delays.specs.declared.search.Class.{Class}
 use Rattle.m161_delays.specs.declared.search.Searched.{Searched}
 use Rattle.m161_delays.specs.declared.slice.Slice.{Slice}
@@ -12,26 +12,29 @@ use Rattle.m161_delays.proofs.Implying.{finds_as, slice_as}
 use Rattle.m161_delays.proofs.Members.{below_part, from_part}
 use Rattle.m161_drive.specs.Choice.{cursor_at}
 use Rattle.m161_judge.specs.declared.run.JudgedRun.{JudgedRun}
-use Rattle.m161_machine.specs.declared.conf.BootError.{BootError}
-use Rattle.m161_machine.specs.History.{IsBootState, boot_fault}
+use Rattle.m161_judge.specs.Memory.{IsKeptOf, StepsMemory}
+use Rattle.m161_machine.specs.History.{IsBootState}
 use Rattle.m161_machine.specs.State.{State}
 use Rattle.m161_order.specs.declared.delays.Delays.{Delays}
 use Rattle.m161_order.specs.declared.order.Order.TheVariants.{Turns, Delayed}
-use Rattle.m161_order.specs.declared.order.OrderError.{OrderError}
 use Rattle.m161_order.specs.Delays.{delays_of}
 use Rattle.m161_places.specs.Laws.{IsEffective}
 use Rattle.m161_places.proofs.Effective.{have_effective_part}
 use Rattle.m161_places.proofs.Moving.{run_of_part}
+use Rattle.m161_reach.specs.Hangs.{HangingAreMade}
 use Rattle.m161_states.specs.Question.{Question}
 use Rattle.m161_c.specs.declared.answer.SoughtSlice.{SoughtSlice}
 use Rattle.m161_c.specs.declared.seeds.WrongRun.{WrongRun}
 use Rattle.m161_c.specs.declared.told.Told.{Told}
-use Rattle.m161_c.specs.Delays.{HasRightRun, HasWrongRun, IsListedBy, SeeksListsOf, offered_by}
+use Rattle.m161_c.specs.Delays.{HasRightRun, HasWrongRun, offered_by}
 use Rattle.m161_c.specs.Driven.{rules_in}
-use Rattle.m161_c.specs.Seeds.{Asked, IsRightBy, IsToldRun, SeeksBooted}
-use Rattle.m161_c.specs.helpers.Listing.{IsLookedBy, IsRightFrom, IsWrongFrom, LooksBy}
+use Rattle.m161_c.specs.Seeds.{Asked, IsRightBy, IsToldRun}
+use Rattle.m161_c.specs.helpers.Listing.{IsRightFrom, IsWrongFrom}
+use Rattle.m161_c.specs.helpers.Points.{IsRunFrom}
 use Rattle.m161_c.specs.helpers.Seeking.{Begins}
+use Rattle.m161_c.specs.helpers.Telling.{TellsRun}
 use Rattle.m161_c.specs.Slices.{IsSlicedBy, TellsStop}
+use Rattle.m161_c.proofs.Seeking.{told_made}
 use Rattle.m161_c.proofs.Telling.{begun, booted_as_one}
 
 -- Every list of a class has the run of a useful one.
@@ -132,37 +135,49 @@ right_before a steps s class wrong first what boots found others of order =
     found.before part useful
     (before_part (delays_of others) part first (h.is_same_or_shorter (ascending_any class.from (delays_of others) of.ascending)) order))
 
--- what was found, from the state at boot on
-pub finds_from : (a : Asked) (s : State) (q : Question) (steps : ℕ) (class : Class) (found : Searched WrongRun) → Begins a s q →
-    Finds class (offered_by a steps s) (IsRightFrom a s q steps) (IsWrongFrom a s q steps) found →
+-- what was found, from the state at boot on, where this is kept of no Steps
+pub finds_from : (a : Asked) (s : State) (q : Question) (kept : StepsMemory) (steps : ℕ) (class : Class) (found : Searched WrongRun) → Begins a s q →
+    IsKeptOf a.goal s [] kept → Finds class (offered_by a steps s) (IsRightFrom a s q kept steps) (IsWrongFrom a s q kept steps) found →
     Finds class (offered_by a steps s) (HasRightRun a steps) (HasWrongRun a steps) found
-finds_from a s q steps class found begins h =
-    finds_as class (offered_by a steps s) (IsRightFrom a s q steps) (HasRightRun a steps) (IsWrongFrom a s q steps) (HasWrongRun a steps) found
-    (λ x b right. right begins) (λ x w wrong. wrong begins) h
+finds_from a s q kept steps class found begins start h =
+    finds_as class (offered_by a steps s) (IsRightFrom a s q kept steps) (HasRightRun a steps) (IsWrongFrom a s q kept steps) (HasWrongRun a steps) found
+    (λ x b right. right begins start) (λ x w wrong. wrong begins start) h
 
-pub slice_from : (a : Asked) (s : State) (q : Question) (steps : ℕ) (class : Class) (from : List ℕ) (most : ℕ) (slice : Slice WrongRun) → Begins a s q →
-    IsSlice class (offered_by a steps s) (IsRightFrom a s q steps) (IsWrongFrom a s q steps) from most slice →
-    IsSlice class (offered_by a steps s) (HasRightRun a steps) (HasWrongRun a steps) from most slice
-slice_from a s q steps class from most slice begins h =
-    slice_as class (offered_by a steps s) (IsRightFrom a s q steps) (HasRightRun a steps) (IsWrongFrom a s q steps) (HasWrongRun a steps) from most slice
-    (λ x b right. right begins) (λ x w wrong. wrong begins) h
-
-pub sliced_by : (a : Asked) (s : State) (q : Question) (steps : ℕ) (class : Class) (from : List ℕ) (most : ℕ) (slice : Slice WrongRun) (told : SoughtSlice)
-    (events : List ℕ) → Begins a s q → IsSlice class (offered_by a steps s) (IsRightFrom a s q steps) (IsWrongFrom a s q steps) from most slice →
+pub sliced_by : (a : Asked) (s : State) (q : Question) (kept : StepsMemory) (steps : ℕ) (class : Class) (from : List ℕ) (most : ℕ) (slice : Slice WrongRun)
+    (told : SoughtSlice) (events : List ℕ) → Begins a s q → IsKeptOf a.goal s [] kept →
+    IsSlice class (offered_by a steps s) (IsRightFrom a s q kept steps) (IsWrongFrom a s q kept steps) from most slice →
     TellsStop a slice.runs slice.cut slice.stop told events → IsSlicedBy a steps class from most told events
-sliced_by a s q steps class from most slice told events begins h tells = record {
+sliced_by a s q kept steps class from most slice told events begins start h tells = record {
   booted = s;
   is_booted = begun a.file a.conf s begins.boots;
   slice = slice;
-  is_slice = slice_from a s q steps class from most slice begins h;
+  is_slice =
+      slice_as class (offered_by a steps s) (IsRightFrom a s q kept steps) (HasRightRun a steps) (IsWrongFrom a s q kept steps) (HasWrongRun a steps) from most
+      slice (λ x b right. right begins start) (λ x w wrong. wrong begins start) h;
   is_told = tells;
 }
 
 -- what came of one run
-pub list_right : (a : Asked) (s : State) (q : Question) (steps : ℕ) (delays : Delays) (run : JudgedRun) (told : Option Told) → told ≡ None →
-    (Begins a s q → IsToldRun a (Delayed steps delays) run told) → IsRightFrom a s q steps (delays_of delays) run.is_cut
-list_right a s q steps delays run told is h = λ begins. (delays, refl, (run, subst (IsToldRun a (Delayed steps delays) run) is (h begins), refl))
+pub list_right : HangingAreMade → (a : Asked) (s : State) (q : Question) (kept : StepsMemory) (steps : ℕ) (delays : Delays) (run : JudgedRun) (told : Option Told) →
+    told ≡ None → IsRunFrom a s kept (Delayed steps delays) run → TellsRun run.is_cut a.few q run.events.items run.judged told →
+    IsRightFrom a s q kept steps (delays_of delays) run.is_cut
+list_right law a s q kept steps delays run told is made tells = λ begins start. (
+  delays,
+  refl,
+  (
+    run,
+    subst (IsToldRun a (Delayed steps delays) run) is
+        (told_made law a s q (Delayed steps delays) run told begins (made (begun a.file a.conf s begins.boots) start) tells),
+    refl,
+  ),
+)
 
-pub list_wrong : (a : Asked) (s : State) (q : Question) (steps : ℕ) (delays : Delays) (run : JudgedRun) (told : Option Told) (what : Told) → told ≡ Some what →
-    (Begins a s q → IsToldRun a (Delayed steps delays) run told) → IsWrongFrom a s q steps (delays_of delays) (record { run = run; told = what })
-list_wrong a s q steps delays run told what is h = λ begins. (delays, refl, subst (IsToldRun a (Delayed steps delays) run) is (h begins))
+pub list_wrong : HangingAreMade → (a : Asked) (s : State) (q : Question) (kept : StepsMemory) (steps : ℕ) (delays : Delays) (run : JudgedRun) (told : Option Told)
+    (what : Told) → told ≡ Some what → IsRunFrom a s kept (Delayed steps delays) run → TellsRun run.is_cut a.few q run.events.items run.judged told →
+    IsWrongFrom a s q kept steps (delays_of delays) (record { run = run; told = what })
+list_wrong law a s q kept steps delays run told what is made tells = λ begins start. (
+  delays,
+  refl,
+  subst (IsToldRun a (Delayed steps delays) run) is
+      (told_made law a s q (Delayed steps delays) run told begins (made (begun a.file a.conf s begins.boots) start) tells),
+)

@@ -27,15 +27,10 @@ run_made : (file : List ℕ) (conf : Conf) (rules : Rules) (n : ℕ) (goal : Cri
 run_made file conf rules n goal (Some first) run h = absurd cc
 run_made file conf rules n goal None run h = h
 
-pub told_run : HangingAreMade → (a : Asked) (s : State) (q : Question) (order : Order) (policy : Rules) (run : JudgedRun) (told : Option Told) → Begins a s q →
-    policy ≡ rules_in a.numbers order a.goal.keys →
-    Runs a.file a.conf (boot_fault a.file a.conf) policy a.events (with_keys_of policy a.goal) (Ok run) →
-    TellsRun run.is_cut a.few q run.events.items run.judged told → IsToldRun a order run told
-told_run law a s q order policy run told begins policy_is runs tells =
-    let rules = rules_in a.numbers order a.goal.keys in
-    let is =
-    run_made a.file a.conf rules a.events a.goal (boot_fault a.file a.conf) run
-    (subst (λ r. Runs a.file a.conf (boot_fault a.file a.conf) r a.events (with_keys_of r a.goal) (Ok run)) policy_is runs) in
+pub told_made : HangingAreMade → (a : Asked) (s : State) (q : Question) (order : Order) (run : JudgedRun) (told : Option Told) → Begins a s q →
+    IsRun a.file a.conf (rules_in a.numbers order a.goal.keys) a.events a.goal run → TellsRun run.is_cut a.few q run.events.items run.judged told →
+    IsToldRun a order run told
+told_made law a s q order run told begins is tells =
     let same : s ≡ is.booted = booted_as_one a.file a.conf s is.booted (begun a.file a.conf s begins.boots) is.is_booted in
     record {
       is_run = is;
@@ -43,6 +38,16 @@ told_run law a s q order policy run told begins policy_is runs tells =
           tells_run law run.is_cut a.few a.goal is.booted q run.events.items run.judged told
           (subst (λ x. AsksEnds a.goal x q) same begins.asks) is.judged tells;
     }
+
+pub told_run : HangingAreMade → (a : Asked) (s : State) (q : Question) (order : Order) (policy : Rules) (run : JudgedRun) (told : Option Told) → Begins a s q →
+    policy ≡ rules_in a.numbers order a.goal.keys →
+    Runs a.file a.conf (boot_fault a.file a.conf) policy a.events (with_keys_of policy a.goal) (Ok run) →
+    TellsRun run.is_cut a.few q run.events.items run.judged told → IsToldRun a order run told
+told_run law a s q order policy run told begins policy_is runs tells =
+    told_made law a s q order run told begins
+    (run_made a.file a.conf (rules_in a.numbers order a.goal.keys) a.events a.goal (boot_fault a.file a.conf) run
+    (subst (λ r. Runs a.file a.conf (boot_fault a.file a.conf) r a.events (with_keys_of r a.goal) (Ok run)) policy_is runs))
+    tells
 
 -- of so many runs no more are cut
 

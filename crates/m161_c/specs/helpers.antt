@@ -2,6 +2,7 @@
 pub mod Explored
 pub mod Listing
 pub mod Offers
+pub mod Points
 pub mod Seeking
 pub mod Telling
 pub mod Turns

@@ -31,7 +31,7 @@ use crate::{BAD, NO_MEMORY, NOTHING};
 use m161::{Conf, Console, Tlb};
 use m161_delays::{Class, Delays, Searched, Slice, Stop, search_alone, search_slice};
 use m161_drive::Order;
-use m161_judge::{Booted, Goal};
+use m161_judge::{Booted, Goal, StepMemory};
 use m161_reach::Machines;
 use m161_states::Known;
 use std::alloc::{AllocError, Global};
@@ -160,9 +160,13 @@ fn look(
     requires most { class.most ≤ 64 }
     ensures { IfOk result (λ told. IsLookedBy task.now turns class from.now limit told.0 told.1.items) }
 {
+    let Ok(steps) = StepMemory::new(alloc, booted, task.goal) else {
+        return Err(AllocError);
+    };
     let runs = ListRuns {
         alloc,
         booted,
+        steps: &steps,
         ends,
         task,
         turns,

@@ -120,7 +120,8 @@ pub(crate) fn make_run(
     task: &Task<'_, '_>,
     order: Order,
 ) -> Result<ToldRun, AllocError>
-    ensures { IfOk result (λ made. Begins task.now booted.now ends.now → IsToldRun task.now order made.run made.told) }
+    requires { Begins task.now booted.now ends.now }
+    ensures { IfOk result (λ made. IsToldRun task.now order made.run made.told) }
 {
     let goal = task.goal;
     let policy = policy_of(&task.numbers, order, goal.keys)?;

@@ -1,5 +1,6 @@
-use Rattle.std.specs.Prelude.{◌≡◌, ℕ, Bool, List, Option, None, Some, Result}
+use Rattle.std.specs.Prelude.{ℕ, Bool, List, [], Option, None, Some, Result}
 use Rattle.m161_delays.specs.declared.search.Class.{Class}
+use Rattle.m161_judge.specs.Memory.{IsKeptOf, StepsMemory}
 use Rattle.m161_machine.specs.State.{State}
 use Rattle.m161_order.specs.declared.order.OrderError.{OrderError}
 use Rattle.m161_states.specs.Question.{Question}
@@ -12,11 +13,15 @@ use Rattle.m161_c.specs.helpers.Seeking.{Begins}
 
 -- A search over lists of delays, made from what may be the state at boot.
 
-abbrev pub IsRightFrom : Asked → State → Question → ℕ → List ℕ → Bool → Type 0
-IsRightFrom a s q steps numbers is_cut = Begins a s q → HasRightRun a steps numbers is_cut
+-- where it is, and this is kept of no Steps
 
-abbrev pub IsWrongFrom : Asked → State → Question → ℕ → List ℕ → WrongRun → Type 0
-IsWrongFrom a s q steps numbers wrong = Begins a s q → HasWrongRun a steps numbers wrong
+abbrev pub IsRightFrom : Asked → State → Question → StepsMemory → ℕ → List ℕ → Bool → Type 0
+IsRightFrom a s q kept steps numbers is_cut =
+    Begins a s q → IsKeptOf a.goal s [] kept → HasRightRun a steps numbers is_cut
+
+abbrev pub IsWrongFrom : Asked → State → Question → StepsMemory → ℕ → List ℕ → WrongRun → Type 0
+IsWrongFrom a s q kept steps numbers wrong =
+    Begins a s q → IsKeptOf a.goal s [] kept → HasWrongRun a steps numbers wrong
 
 -- the whole search, or a slice of so many runs from a list on
 abbrev pub IsLookedBy : Asked → ℕ → Class → List ℕ → Option ℕ → SoughtSlice → List ℕ → Type 0

@@ -19,22 +19,8 @@ loop-right-preserved c =
     let run = c.in_ok-run.field-0.run in
     let told : IsToldRun a (seeded k c.args.order) run None =
     subst (λ told. IsToldRun a (seeded k c.args.order) run told) c.in_default.is
-    (subst (λ (order : Order). IsToldRun a order run c.in_ok-run.field-0.told) c.seeded.ensures (c.in_ok-run.ensures c.requires)) in
+    (subst (λ (order : Order). IsToldRun a order run c.in_ok-run.field-0.told) c.seeded.ensures c.in_ok-run.ensures) in
     elim c.if-run.branch [
       | then-run w ↦ right_more (λ k is_cut. IsRightBy a (seeded k c.args.order) is_cut) k cut true c.if-run.cut c.loop-right.invariant (run, told, w.if-run.true) w.cut-is
       | else-run w ↦ right_more (λ k is_cut. IsRightBy a (seeded k c.args.order) is_cut) k cut false c.if-run.cut c.loop-right.invariant (run, told, w.if-run.false) w.cut-is
     ]
-
-pub returns-in-Some : goal.returns-in-Some
-returns-in-Some c =
-    let a = c.args.task.now in
-    let order = seeded c.loop-right.right c.args.order in
-    let run = c.in_ok-run.field-0.run in
-    record {
-      before = c.loop-right.invariant;
-      at_end = (
-        c.loop-right-test.true,
-        subst (λ told. IsToldRun a order run told) c.in-Some.is
-            (subst (λ (o : Order). IsToldRun a o run c.in_ok-run.field-0.told) c.seeded.ensures (c.in_ok-run.ensures c.requires)),
-      );
-    }
