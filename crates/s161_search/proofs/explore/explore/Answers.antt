@@ -16,8 +16,8 @@ returns-clause-ok g c =
     let words = map (λ word. word.now) c.args.never.now in
     let told = string_bytes c.explore_by.new.said in
     subst (λ n. IfOk c.explore_by.result (λ done. IsExploredBy (as_search c.args.task) n words files (image_file files c.args.task.image.now) done.text.items told done.status))
-    c.limit_of.ensures.value
-    (subst (λ (t : SearchTask). IfOk c.explore_by.result (λ done. IsExploredBy t c.limit_of.result words files (image_file files t.image.now) done.text.items told done.status))
+    c.limit_of-limit.ensures.value
+    (subst (λ (t : SearchTask). IfOk c.explore_by.result (λ done. IsExploredBy t c.limit_of-limit.result words files (image_file files t.image.now) done.text.items told done.status))
     c.as_search.ensures c.explore_by.ensures.ok)
 
 pub returns-clause-fault : goal.returns-clause-fault

@@ -15,7 +15,7 @@ returns-in_ok-text-in-Wrong-clause-ok g c =
     let turns = turns_are task.drive.order c.args.class c.requires.class in
     let steps = c.turns_of-turns.ensures turns.0 turns.1 in
     let first : IsFirstBy task given c.turns_of-turns.result class (delays_of c.in-Wrong.delays) c.in-Wrong.wrong.run c.in-Wrong.wrong.told =
-    subst (IsSearchedBy task given c.turns_of-turns.result class) c.in-Wrong.is c.in_ok-try_lists.ensures.ok in (
+    subst (IsSearchedBy task given c.turns_of-turns.result class) c.in-Wrong.is c.in_ok-count.ensures.ok in (
       turns.0,
       turns.1,
       inr (
