@@ -54,21 +54,23 @@ fn main(rt: HostRuntime) -> ExitCode {
     let shown = way.map(|_way| &meter);
     let mut output = Cleared::new(&rt, shown, rt.stdout(), rt.stderr());
     let mut errors = Cleared::new(&rt, shown, rt.stderr(), rt.stderr());
-    let status = thread::scope(thread::scope_env(), &rt, |scope| {
+    let (host, counted, shower) = (&rt, &progress, &meter);
+    let status = thread::scope(thread::scope_env(), host, |scope| {
         if let Some(way) = way {
             // Where no thread can be made, nothing is shown.
-            let _shower = scope.spawn(|| meter.show(&rt, &mut rt.stderr(), &progress, way));
+            let _thread =
+                scope.spawn(move || shower.show(host, &mut host.stderr(), counted, way));
         }
         let status = start(
-            &rt,
+            host,
             words,
-            &mut HostFiles::new(&rt),
+            &mut HostFiles::new(host),
             &mut input,
             &mut output,
             &mut errors,
-            &progress,
+            counted,
         );
-        meter.end(&rt, &mut rt.stderr());
+        shower.end(host, &mut host.stderr());
         status
     });
     ExitCode::from(status)
