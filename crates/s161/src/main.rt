@@ -58,8 +58,7 @@ fn main(rt: HostRuntime) -> ExitCode {
     let status = thread::scope(thread::scope_env(), host, |scope| {
         if let Some(way) = way {
             // Where no thread can be made, nothing is shown.
-            let _thread =
-                scope.spawn(move || shower.show(host, &mut host.stderr(), counted, way));
+            let _thread = scope.spawn(move || shower.show(host, &mut host.stderr(), counted, way));
         }
         let status = start(
             host,

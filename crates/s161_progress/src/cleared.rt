@@ -19,12 +19,7 @@ pub struct Cleared<'a, R, W, E> {
 
 impl<'a, R: Wait, W: Write, E: Write> Cleared<'a, R, W, E> {
     /// An output, and where the meter's line is cleared.
-    pub fn new(
-        rt: &'a R,
-        meter: Option<&'a Meter>,
-        output: W,
-        errors: E,
-    ) -> Cleared<'a, R, W, E>
+    pub fn new(rt: &'a R, meter: Option<&'a Meter>, output: W, errors: E) -> Cleared<'a, R, W, E>
         ensures { result.output ≡ output }
     {
         Cleared {

@@ -105,9 +105,9 @@ impl Meter {
     // Whether the meter is ended before this time is over.
     fn is_over_after<R: Wait + Clock>(&self, rt: &R, time: Duration) -> bool {
         let shown = self.shown.lock(rt);
-        let (shown, _ended) =
-            self.ended
-                .wait_timeout_while(rt, shown, time, |shown| !shown.is_over);
+        let (shown, _ended) = self
+            .ended
+            .wait_timeout_while(rt, shown, time, |shown| !shown.is_over);
         shown.is_over
     }
 

@@ -160,7 +160,10 @@ fn count_scheduled(
     };
     let stop = make_events(core, events, &mut kept)?;
     let Kept {
-        log, watch, events, ..
+        log,
+        watch,
+        events,
+        ..
     } = kept;
     let traps = lines_of(alloc, &mut first, &events)?;
     Ok(Made {
@@ -233,7 +236,10 @@ fn count_chosen(
     };
     let stop = make_behind(core, first, options, options.events, keys, &mut kept)?;
     let Kept {
-        log, watch, events, ..
+        log,
+        watch,
+        events,
+        ..
     } = kept;
     let traps = lines_of(alloc, &mut before, &events)?;
     Ok(Made {

@@ -82,7 +82,12 @@ impl<'a, 'b> Runs for DelayedRuns<'a, 'b> {
     fn offers(&self, delays: &Delays, counts: &mut Vec<u8>) -> Result<(), Fault<'a>> {
         let policy = self.policy(delays)?;
         let mut core = self.basis.start.core.copy(self.basis.alloc)?;
-        m161_places::offers(&mut core, &policy, self.basis.inputs.most(self.basis.task), counts)?;
+        m161_places::offers(
+            &mut core,
+            &policy,
+            self.basis.inputs.most(self.basis.task),
+            counts,
+        )?;
         Ok(())
     }
 
@@ -119,7 +124,11 @@ impl<'a, 'b> Runs for DelayedRuns<'a, 'b> {
             steps,
         } = point;
         let chosen = events.len().saturating_sub(self.basis.start.events.len());
-        let left = self.basis.inputs.most(self.basis.task).saturating_sub(chosen as u64);
+        let left = self
+            .basis
+            .inputs
+            .most(self.basis.task)
+            .saturating_sub(chosen as u64);
         let more = place.saturating_sub(*passed);
         match go_along(
             core,

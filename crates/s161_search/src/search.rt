@@ -215,11 +215,7 @@ fn by_seeds<'a, R: Threads + Sync>(
 }
 
 // What is printed of the first run that goes wrong.
-fn found_text(
-    basis: &Basis<'_, '_>,
-    place: u32,
-    wrong: WrongRun,
-) -> Result<Vec<u8>, AllocError>
+fn found_text(basis: &Basis<'_, '_>, place: u32, wrong: WrongRun) -> Result<Vec<u8>, AllocError>
     requires begins { Begins (given_of basis.now.inputs.now) basis.now.booted.now basis.now.ends.now }
     requires first { IsFirstWrong basis.now.task (given_of basis.now.inputs.now) place wrong.run wrong.told }
     ensures { IfOk result (λ text. IsFound basis.now.task (given_of basis.now.inputs.now) text.items) }

@@ -57,15 +57,7 @@ where
     ensures within { result ≤ 6 }
 {
     match words {
-        Ok(words) => follow(
-            rt,
-            words.as_slice(),
-            files,
-            input,
-            output,
-            errors,
-            progress,
-        ),
+        Ok(words) => follow(rt, words.as_slice(), files, input, output, errors, progress),
         Err(unread) => report(unread, errors),
     }
 }
