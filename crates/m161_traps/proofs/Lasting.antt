@@ -1,7 +1,8 @@
-use Rattle.std.proofs.Common.{◌≡◌, ◌∙◌, refl, ap, sym, subst, arith, ℕ, suc, zero, ◌+◌, ◌-◌, ◌<◌, Bool, true, false, List, [], ◌∷◌, ◌++◌, append-nil, append_assoc, length, take}
+use Rattle.std.proofs.Common.{◌≡◌, ◌∙◌, refl, ap, sym, subst, arith, ℕ, suc, zero, ◌+◌, ◌-◌, ◌*◌, ◌<◌, below_more, inl, inr, Bool, true, false, List, [], ◌∷◌, ◌++◌, append-nil, append_assoc, length, take}
 use Rattle.std.specs.Prelude.{◌&&◌, cond, filter, flat_map, map, Option, None, Some, option_map, replicate, slice_get, slice_index_or}
 use Rattle.std.specs.List.{All, AllByRecursion, list_all, range_with_len}
-use Rattle.std.proofs.lemmas.List.{flat_map_more, length-append, take_more}
+use Rattle.std.proofs.lemmas.List.{flat_map_more, get_or-take, get_or_default, length-append, length-take, take_more}
+use Rattle.std.proofs.lemmas.Bool.{cases_lt}
 use Rattle.std.proofs.lemmas.List.Concat.{flat_map-append}
 use Rattle.std.proofs.lemmas.List.Elements.{All-append, recursion_from_All}
 use Rattle.std.proofs.lemmas.List.Folds.{list_all-append}
@@ -201,3 +202,49 @@ ran_more es k e true true less at both before here =
     one h (suc k) d within = absurd (let bad : ⊥ = omega (arith, within) in bad)
 ran_more es k e true false less at both before here = absurd cc
 ran_more es k e false b less at both before here = absurd cc
+
+-- the same by quarters
+
+pub both_true : (a b : Bool) → (a && b) ≡ true → (a ≡ true) × (b ≡ true)
+both_true true true h = (refl, refl)
+both_true true false h = absurd cc
+both_true false b h = absurd cc
+
+-- the Step at this place ran
+abbrev pub RanAt : List Entry → ℕ → Type 0
+RanAt es k = (d : Entry) → k < length es → (slice_index_or es k d).outcome ≡ Ran
+
+-- the first n of each quarter ran
+abbrev pub QuartersRan : List Entry → ℕ → ℕ → Type 0
+QuartersRan es q n = (k : ℕ) → k < n → RanAt es k × RanAt es (q + k) × RanAt es (2 * q + k) × RanAt es (3 * q + k)
+
+pub ran_at : (es : List Entry) (k : ℕ) (e : Entry) → e ≡ slice_index_or es k e → e.outcome ≡ Ran → RanAt es k
+ran_at es k e at ran = λ d within.
+    ap (λ (x : Entry). x.outcome) (get_or_default es k d e within ∙ sym at) ∙ ran
+
+pub quarters_more : (es : List Entry) (q n : ℕ) → QuartersRan es q n → RanAt es n → RanAt es (q + n) → RanAt es (2 * q + n) → RanAt es (3 * q + n) → QuartersRan es q (n + 1)
+quarters_more es q n before a b c d =
+    below_more (λ k. RanAt es k × RanAt es (q + k) × RanAt es (2 * q + k) × RanAt es (3 * q + k)) n before (a, b, c, d)
+
+pub quarters_all : (es : List Entry) (q : ℕ) → QuartersRan es q q → All (λ (e : Entry). e.outcome ≡ Ran) (take (4 * q) es)
+quarters_all es q ran = λ k d within.
+    let size = length-take (4 * q) es in
+    let below : k < 4 * q = omega (arith, size, within) in
+    let inside : k < length es = omega (arith, size, within) in
+    ap (λ (x : Entry). x.outcome) (get_or-take (4 * q) es k d below) ∙ by k below d inside
+  where
+    at : (i k : ℕ) → i ≡ k → RanAt es i → RanAt es k
+    at i k same h = subst (RanAt es) same h
+
+    by : (k : ℕ) → k < 4 * q → RanAt es k
+    by k below =
+        elim (cases_lt k q) [
+          | inl a ↦ (ran k a).0
+          | inr a ↦ elim (cases_lt k (2 * q)) [
+            | inl b ↦ at (q + (k - q)) k (omega (arith, a)) (ran (k - q) (omega (arith, a, b))).1
+            | inr b ↦ elim (cases_lt k (3 * q)) [
+              | inl c ↦ at (2 * q + (k - 2 * q)) k (omega (arith, b)) (ran (k - 2 * q) (omega (arith, b, c))).2
+              | inr c ↦ at (3 * q + (k - 3 * q)) k (omega (arith, c)) (ran (k - 3 * q) (omega (arith, c, below))).3
+            ]
+          ]
+        ]

@@ -1,7 +1,7 @@
 //! What is watched of the entries of a run, whatever its state is: to which vectors there were traps, and
 //! which processors' last Steps trapped.
 
-ghost use Rattle.std.specs.Prelude.{◌≡◌, ℕ, ◌<◌, ◌++◌, [], true, false, IfOk, List, None, OnOk, slice_index_or, string_bytes};
+ghost use Rattle.std.specs.Prelude.{◌≡◌, ℕ, ◌*◌, ◌<◌, ◌≤◌, ◌++◌, [], true, false, IfOk, List, None, OnOk, length, slice_index_or, string_bytes, take};
 ghost use Rattle.std.specs.List.{All};
 ghost use Rattle.m161_cpu.specs.declared.processor.Outcome.TheVariants as outcomes;
 ghost use Rattle.m161_machine.specs.declared.event.Entry.{Entry as EntryValue};
@@ -53,9 +53,38 @@ fn has_run(entry: PackedEntry) -> bool
     }
 }
 
-// Whether all of these Steps ran, and did no more. No branch, so that LLVM looks at several at once.
+// Whether four Steps ran, and did no more. No branch, so that LLVM makes one test of the four.
 #[inline(always)]
-fn have_run(entries: &[PackedEntry]) -> bool
+fn four_have_run(a: PackedEntry, b: PackedEntry, c: PackedEntry, d: PackedEntry) -> bool
+    ensures { result ≡ true → (a.outcome ≡ outcomes.Ran) × (b.outcome ≡ outcomes.Ran)
+        × (c.outcome ≡ outcomes.Ran) × (d.outcome ≡ outcomes.Ran) }
+{
+    has_run(a) & has_run(b) & has_run(c) & has_run(d)
+}
+
+// Whether all of these Steps ran, and did no more, for four quarters of this length: so that LLVM looks
+// at several entries of each at once.
+#[inline(always)]
+fn quarters_have_run(entries: &[PackedEntry], quarter: usize) -> bool
+    requires { 4 * quarter ≤ length entries.now }
+    ensures { result ≡ true → All (λ (e : EntryValue). e.outcome ≡ outcomes.Ran)
+        (take (4 * quarter) entries.now) }
+{
+    let mut all = true;
+    for k in 0..quarter {
+        all &= four_have_run(
+            entries[k],
+            entries[quarter + k],
+            entries[2 * quarter + k],
+            entries[3 * quarter + k],
+        );
+    }
+    all
+}
+
+// The same of each, one by one.
+#[inline(always)]
+fn each_has_run(entries: &[PackedEntry]) -> bool
     ensures { result ≡ true → All (λ (e : EntryValue). e.outcome ≡ outcomes.Ran) entries.now }
 {
     let mut all = true;
@@ -63,6 +92,18 @@ fn have_run(entries: &[PackedEntry]) -> bool
         all &= has_run(*entry);
     }
     all
+}
+
+// The same of all.
+#[inline(always)]
+fn have_run(entries: &[PackedEntry]) -> bool
+    ensures { result ≡ true → All (λ (e : EntryValue). e.outcome ≡ outcomes.Ran) entries.now }
+{
+    let quarter = entries.len() / 4;
+    if !quarters_have_run(entries, quarter) {
+        return false;
+    }
+    each_has_run(&entries[4 * quarter..])
 }
 
 // Whether no processor's last Step trapped.
@@ -137,8 +178,8 @@ impl Watch {
         Ok(())
     }
 
-    /// Adds entries, behind those so far. Where no last Step trapped and no new one did, that takes less
-    /// than a machine instruction for each.
+    /// Adds entries, behind those so far. Where no last Step trapped and all new ones ran, that takes about
+    /// a machine instruction for each.
     ///
     /// # Errors
     /// A processor trapped 2^64 times, which no machine does.

@@ -1,6 +1,6 @@
 //! Making the events of a schedule on a machine.
 
-ghost use Rattle.std.specs.Prelude.{◌≡◌, ◌<◌, IfOk, List, MatchOption, Some, length, take};
+ghost use Rattle.std.specs.Prelude.{◌≡◌, ◌<◌, ◌≤◌, IfOk, List, MatchOption, Some, length, take};
 ghost use Rattle.m161_drive.specs.Drive.{IsNoted};
 ghost use Rattle.m161_machine.specs.declared.event.Entry.{Entry};
 ghost use Rattle.m161_machine.specs.History.{Refuses};
@@ -86,10 +86,11 @@ pub fn make_events<N: Notes>(
         × IsNoted N.has notes.old entries notes.new) }
 {
     let was_off = core.is_off();
+    let mut entries = [PackedEntry::blank(); AT_ONCE];
     let mut made = 0;
     let mut left = events.runs();
     while let Some((event, times)) = left.next() {
-        let (more, refusal) = make_alike(core, event, times, notes)?;
+        let (more, refusal) = make_alike(core, event, times, &mut entries, notes)?;
         made += more as usize;
         if core.is_off() != was_off {
             return Ok(stop_off(core.conflict()));
@@ -102,22 +103,25 @@ pub fn make_events<N: Notes>(
 }
 
 // So many events are made at once, at most: their entries are in the processor's nearest cache.
-const AT_ONCE: usize = 64;
+const AT_ONCE: usize = 256;
 
-// Makes an event this many times. Returns how many were made, and why the next one wasn't.
+// Makes an event this many times, in these places, again and again. Returns how many times it was made,
+// and why the next time it wasn't.
 fn make_alike<N: Notes>(
     core: &mut Core,
     event: Event,
     times: u32,
+    entries: &mut [PackedEntry],
     notes: &mut N,
 ) -> Result<(u32, Option<Refusal>), AllocError>
-    ensures { IfOk result (MakesAlike N.has core.old.state notes.old event times
+    requires { 1 ≤ length entries.old }
+    ensures length { length entries.new ≡ length entries.old }
+    ensures alike { IfOk result (MakesAlike N.has core.old.state notes.old event times
         core.new.state notes.new) }
 {
-    let mut entries = [PackedEntry::blank(); AT_ONCE];
     let mut made = 0;
     while made < times {
-        let most = ((times - made) as usize).min(AT_ONCE);
+        let most = ((times - made) as usize).min(entries.len());
         let (more, refusal) = make_some(core, event, &mut entries[..most]);
         notes.add(&entries[..more])?;
         made += more as u32;

@@ -7,8 +7,8 @@ use Rattle.m161_machine.specs.State.{next}
 use Rattle.s161_run.proofs.Making.{again_ends, again_more}
 use Rattle.s161_run.proofs.events.make_alike.Goals as goal
 
-pub returns-in-Some : goal.returns-in-Some
-returns-in-Some g c =
+pub returns-in-Some-clause-alike : goal.returns-in-Some-clause-alike
+returns-in-Some-clause-alike g c =
     let has = g.N.Notes.has in
     let s = c.args.core.now.state in
     let t = c.loop-made.core.state in

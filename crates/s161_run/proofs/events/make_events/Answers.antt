@@ -12,7 +12,7 @@ use Rattle.s161_run.proofs.events.make_events.Goals as goal
 pub returns-then-is_off-was_off : goal.returns-then-is_off-was_off
 returns-then-is_off-was_off g c =
     let before = c.loop-event.invariant in
-    let alike = c.in_ok-more.ensures in
+    let alike = c.in_ok-more.ensures.alike in
     let s = c.args.core.now.state in
     let t = c.make_alike.new.core.state in
     let events = c.args.events.now in
@@ -28,7 +28,7 @@ returns-then-is_off-was_off g c =
 pub returns-in-Some-refusal : goal.returns-in-Some-refusal
 returns-in-Some-refusal g c =
     let before = c.loop-event.invariant in
-    let alike = c.in_ok-more.ensures in
+    let alike = c.in_ok-more.ensures.alike in
     let s = c.args.core.now.state in
     let t = c.make_alike.new.core.state in
     let events = c.args.events.now in
@@ -43,12 +43,12 @@ returns-in-Some-refusal g c =
 
 pub loop-event-init : goal.loop-event-init
 loop-event-init g c =
-    (making_none g.N.Notes.has c.args.core.now.state c.args.notes.now c.args.events.now, refl, omega arith, c.runs-left.ensures.all)
+    (making_none g.N.Notes.has c.args.core.now.state c.args.notes.now c.args.events.now, refl, omega arith, c.runs-left.ensures.all, refl)
 
 pub loop-event-preserved : goal.loop-event-preserved
 loop-event-preserved g c =
     let before = c.loop-event.invariant in
-    let alike = c.in_ok-more.ensures in
+    let alike = c.in_ok-more.ensures.alike in
     let s = c.args.core.now.state in
     let t = c.make_alike.new.core.state in
     let events = c.args.events.now in
@@ -60,6 +60,7 @@ loop-event-preserved g c =
       search rules,
       rw all (run_within events c.loop-event.left c.next.new.self c.loop-event.made c.in-Some.times c.in-Some.event before.2 before.3 c.in-Some.ensures.steps.0),
       rw all (run_passed events c.loop-event.left c.next.new.self c.loop-event.made c.in-Some.times c.in-Some.event before.3 c.in-Some.ensures.steps.0),
+      c.make_alike.ensures.length ∙ before.4,
     )
 
 pub returns : goal.returns

@@ -8,3 +8,4 @@ invariant-loop-event g l = Making g.N.Notes.has l.fn.core.state l.fn.notes l.eve
     × (l.core.state.board.off ≡ l.fn.core.state.board.off)
     × (l.made ≤ length l.events)
     × (l.left ≡ drop l.made l.events)
+    × (length l.entries ≡ 256)

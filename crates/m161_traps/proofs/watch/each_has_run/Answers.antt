@@ -4,7 +4,7 @@ use Rattle.std.proofs.lemmas.List.{take_all}
 use Rattle.m161_cpu.specs.declared.processor.Outcome.TheVariants as outcomes
 use Rattle.m161_machine.specs.declared.event.Entry.{Entry}
 use Rattle.m161_traps.proofs.Lasting.{ran_more}
-use Rattle.m161_traps.proofs.watch.have_run.Goals as goal
+use Rattle.m161_traps.proofs.watch.each_has_run.Goals as goal
 
 pub loop-entry-preserved : goal.loop-entry-preserved
 loop-entry-preserved c =
