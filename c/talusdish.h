@@ -344,7 +344,7 @@ uint8_t talusdish_seeds(talusdish_slot *slot, const uint8_t *file, size_t file_s
  * run goes wrong; where none does, no list of the class has a run that goes wrong. What goes wrong, what the session's bytes are, and what
  * is answered in which order is as of talusdish_seeds; but BAD, too, for another kind of order than TALUSDISH_TURNS and for more than 64
  * delays. There are about P runs of one delay and P * P / 2 of two, where a run has P choices: `within` and few events bound them. It takes
- * some 3 KB of stack for each delay of a list, beside about 100 KB. It is one call, which can't be stopped: talusdish_slice makes a part of it. */
+ * some 5 KB of stack for each delay of a list, beside about 130 KB. It is one call, which can't be stopped: talusdish_slice makes a part of it. */
 uint8_t talusdish_delays(talusdish_slot *slot, const uint8_t *file, size_t file_size, const talusdish_order *order, const talusdish_class *lists,
                          uint64_t n, uint32_t hung, const uint8_t *keys, size_t keys_size, const talusdish_watch *watches, size_t watches_size,
                          const uint32_t *never, size_t never_size, bool asked, const uint8_t *output, size_t output_size,
