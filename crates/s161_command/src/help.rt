@@ -66,6 +66,10 @@ There are N of them; the first is event K, from 0; PC is EPC and ADDRESS BadVAdd
 right after it, or - where the code is none of 1 to 5. The events are made twice
 then; those of --threads are the log's, so --log has room for each Step.
 
+Where traps go wrong, standard error says so behind all else: `s161: note trap K P CODE NAME VECTOR` of the
+first trap, event K, behind which the word at its vector is 0 and not the image's; and `s161: note trapping
+N P CODE NAME` of each processor whose last N Steps, three or more, all trapped. Beside --threads it doesn't.
+
 With --strict a tlbwi or tlbwr of a row that would overlap another one isn't
 done: it is a conflict, and switches the machine off. Two rows overlap where
 they have the same page and the same identifier, or the same page and one of
