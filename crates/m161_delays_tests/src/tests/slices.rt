@@ -172,13 +172,13 @@ fn check_next<R: Abort>(rt: &R, alloc: Global, row: &Row, most: u64) -> Result<(
 
 /// Fails the test where slices of so many runs aren't together all of them.
 fn check_whole<R: Abort>(rt: &R, alloc: Global, most: u64) -> Result<(), Fail> {
-    let mut all = 0;
-    let mut all_cut = 0;
+    let mut all = 0u64;
+    let mut all_cut = 0u64;
     let mut next = Vec::new(alloc);
     for _ in 0..13 {
         let Slice { runs, cut, stop } = search_slice(alloc, &table(NONE), CLASS, &next, most)?;
-        all += runs.min(12);
-        all_cut += cut.min(12);
+        all = all.wrapping_add(runs);
+        all_cut = all_cut.wrapping_add(cut);
         next.clear();
         match stop {
             Some(Stop::Next { delays }) => next.extend_from_slice(delays.as_slice())?,
