@@ -50,7 +50,7 @@ def amounts(said):
     return re.findall(AMOUNT, whole.group(1)), whole.group(4)
 
 
-size = 1 << 20
+size = 1 << 8
 shown, rest, status, output = [], b"", 0, b""
 while len(shown) < 2:
     size *= 4
