@@ -16,7 +16,7 @@ const AT_VECTOR: [&str; 4] = [
 
 const TWO_TRAPS: &str = "traps 0 8 Sys 2 first 0 80000200 -\n";
 
-// Traps: of a schedule, of an order, and in threads. A refused event is none, and a key has a number.
+// Traps, and the note on the first, since the image has no handler: of a schedule, of an order, and in threads. A refused event is none, and a key has a number.
 static TRAPPED: [Case; 6] = [
     Case {
         words: &["s161", "run", "image", "--traps"],
@@ -24,7 +24,7 @@ static TRAPPED: [Case; 6] = [
         schedule: "s 0 98\n",
         status: 3,
         output: &[&AT_VECTOR, &[TWO_TRAPS, "stop: end\n"]],
-        errors: "",
+        errors: "s161: note trap 0 0 8 Sys 80000080 (the image has nothing there)\n",
     },
     Case {
         words: &[
@@ -39,7 +39,7 @@ static TRAPPED: [Case; 6] = [
         schedule: "",
         status: 3,
         output: &[&AT_VECTOR, &[TWO_TRAPS, "stop: end\n"]],
-        errors: "",
+        errors: "s161: note trap 0 0 8 Sys 80000080 (the image has nothing there)\n",
     },
     Case {
         words: &[
@@ -65,7 +65,7 @@ static TRAPPED: [Case; 6] = [
             &AT_VECTOR,
             &["traps 0 8 Sys 1 first 1 80000200 -\nstop: refused 2 1 BadProcessor\n"],
         ],
-        errors: "",
+        errors: "s161: note trap 1 0 8 Sys 80000080 (the image has nothing there)\n",
     },
     Case {
         words: &[

@@ -23,6 +23,9 @@ const LINKED_MACHINE: &str =
 /// The Steps before the last one of seven.
 const SIX: &str = "s 0 ran\ns 0 ran\ns 0 ran\ns 0 ran\ns 0 ran\ns 0 ran\n";
 
+/// Where the seventh Step traps: the image has no handler.
+const NOTED: &str = "stop: end\ns161: note trap 6 0 9 Bp 80000080 (the image has nothing there)\n";
+
 // What `ll` links a processor to: the last Step is one behind the branch, or traps.
 static UNITS: [Case; 6] = [
     Case {
@@ -52,7 +55,7 @@ static UNITS: [Case; 6] = [
             SIX,
             "s 0 trap 9 80000080\n",
         ]],
-        errors: "stop: end\n",
+        errors: NOTED,
     },
     Case {
         words: &[
@@ -89,7 +92,7 @@ static UNITS: [Case; 6] = [
             SIX,
             "s 0 trap 9 80000080\n",
         ]],
-        errors: "stop: end\n",
+        errors: NOTED,
     },
     Case {
         words: &["s161", "trace", "image", "--link=line", "--from=6"],
@@ -143,7 +146,7 @@ static NAMED: [Case; 13] = [
             SIX,
             "s 0 trap 9 80000080\n",
         ]],
-        errors: "stop: end\n",
+        errors: NOTED,
     },
     Case {
         words: &["s161", "run", "image", "--only-log"],
@@ -156,7 +159,7 @@ static NAMED: [Case; 13] = [
             SIX,
             "s 0 trap 9 80000080\n",
         ]],
-        errors: "stop: end\n",
+        errors: NOTED,
     },
     Case {
         words: &["s161", "run", "image", "--only-log"],
