@@ -5,16 +5,16 @@ _s161_of_command() {
     case $1 in
     '') options='-h --help -V --version' arguments=(commands) ;;
     demo) options='-h --help' arguments=() ;;
-    run) options='--ram --cpus --log --link --strict --show-log --only-log --only-output --traps --threads --burst --turns --delayed --random --changes --within --events --transfer --keys --gap --after -h --help' arguments=('files @sample') ;;
+    run) options='--ram --cpus --log --link --strict --show-log --only-log --only-output --traps --threads --burst --progress --turns --delayed --random --changes --within --events --transfer --keys --gap --after -h --help' arguments=('files @sample') ;;
     console) options='--ram --cpus --log --link --strict --turns --delayed --random --changes --within --events --transfer --gap -h --help' arguments=('files @sample') ;;
     schedule) options='--ram --cpus --log --link --strict --turns --delayed --random --changes --within --events --transfer --keys --gap --after -h --help' arguments=('files @sample') ;;
-    search) options='--ram --cpus --log --link --strict --seeds --delays --turns --from --jobs --watches --never --output --hung --whole --changes --within --events --transfer --keys --gap --after -h --help' arguments=('files @sample') ;;
-    explore) options='--ram --cpus --link --strict --watches --never --output --keys --states -h --help' arguments=('files @sample') ;;
+    search) options='--ram --cpus --log --link --strict --seeds --delays --turns --from --jobs --watches --never --output --hung --whole --progress --changes --within --events --transfer --keys --gap --after -h --help' arguments=('files @sample') ;;
+    explore) options='--ram --cpus --link --strict --watches --never --output --keys --states --progress -h --help' arguments=('files @sample') ;;
     trace) options='--ram --cpus --log --link --strict --from --count --names --symbols --only --touches --outcomes --shared --loads --turns --delayed --random --changes --within --events --transfer --keys --gap --after -h --help' arguments=('files @sample') ;;
-    replay) options='--ram --cpus --log -h --help' arguments=('files @sample' 'files') ;;
+    replay) options='--ram --cpus --log --progress -h --help' arguments=('files @sample' 'files') ;;
     debug) options='--ram --cpus --log --link --strict --names --symbols --turns --delayed --random --changes --within --events --transfer --keys --gap --after -h --help' arguments=('files @sample' 'files') ;;
     gdb) options='--ram --cpus --log --link --strict --turns --delayed --random --changes --within --events --transfer --keys --gap --after -h --help' arguments=('files @sample' 'files') ;;
-    audit) options='--ram --cpus --log --link --strict -h --help' arguments=('files @sample' 'files') ;;
+    audit) options='--ram --cpus --log --link --strict --progress -h --help' arguments=('files @sample' 'files') ;;
     as) options='--symbols -h --help' arguments=() ;;
     dis) options='--names --symbols -h --help' arguments=('files @sample') ;;
     help) options='' arguments=('commands') ;;
