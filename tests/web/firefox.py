@@ -83,13 +83,13 @@ def uses(f, url):
     yield "opens, and runs"
     press("hunt")
     f.wait("document.body.dataset.hunt === 'on'"), idle()
-    assert "goes wrong: stuck" in text("hunted") and data("stop") == "stuck", text("hunted")
+    assert "events: stuck. No shorter run is so" in text("hunted") and data("stop") == "stuck", text("hunted")
     assert "Never seen" in text("verdict")
     yield "finds a bad interleaving"
     f.js("document.querySelector('[data-go=Home]').click()")
-    for _ in range(13):
+    for _ in range(15):
         f.js("document.querySelector('[data-go=ArrowRight]').click()")
-    f.wait("document.getElementById('tabs').textContent.includes('The machine’s own, after #12')")
+    f.wait("document.getElementById('tabs').textContent.includes('The machine’s own, after #14')")
     assert "Loads 0 from A" in text("detail"), text("detail")
     yield "goes forwards, and shows the machine"
     f.js("const s = document.getElementById('source'); s.value = s.value.replace('ori ', 'orj '); s.dispatchEvent(new Event('input'))")
