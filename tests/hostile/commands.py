@@ -321,6 +321,7 @@ def small(make):
         Command(["search", "off.elf", *one, "--seeds", "1", "--output", "keys"], ends=4),
         Command(["search", "shell.elf", *two, "--seeds", "1", "--keys", keys, "--events", "500"]),
         Command(["search", "turns.elf", *two, "--seeds", "5", "--jobs", "3"]),
+        Command(["search", "turns.elf", *two, "--seeds", "5", "--progress"]),
         Command(["search", "turns.elf", "--seeds", "2", "--after", "first.schedule"]),
         Command(["search", "turns.elf", "--delays", "1", "--within", "5", "--after", "first.schedule"]),
         Command(["search", "turns.elf", *two, "--delays", "1", "--within", "6"]),
