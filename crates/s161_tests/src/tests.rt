@@ -17,6 +17,7 @@ mod streams;
 mod texts;
 mod traps;
 mod units;
+mod waiting;
 
 use std::fmt::Debug;
 use std::process::Abort;
