@@ -52,7 +52,7 @@ def amounts(said):
 
 size = 1 << 8
 shown, rest, status, output = [], b"", 0, b""
-while len(shown) < 2:
+while len(shown) < 5 and len({done for done, most in shown}) < 2:
     size *= 4
     if size > 1 << 36:
         fail(f"nothing is shown of a run of {size} events")
