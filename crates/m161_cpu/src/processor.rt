@@ -143,7 +143,7 @@ impl<T: Tlb> Cpu<T> {
         }
     }
 
-    /// A processor in the same state.
+    /// A processor in the same state, which looks translations up anew. Does not allocate.
     #[inline(never)]
     pub fn copy(&self) -> Cpu<T>
         ensures { result ≡ self.now }

@@ -47,7 +47,7 @@ pub fn verify<T: Tlb + Drop, D: Console + Drop>(
 }
 
 // After so many events a listener is told again.
-const TOLD_AFTER: usize = 4096;
+const TOLD_AFTER: u64 = 4096;
 
 /// The same, while someone listens how many events were made.
 ///
@@ -68,8 +68,9 @@ pub fn verify_with<T: Tlb + Drop, D: Console + Drop, L: Listener>(
         if !repeats(&mut core, *entry)? {
             return Ok(Comparison::Differs(k));
         }
-        if k % TOLD_AFTER == 0 {
-            listener.reached(k as u64);
+        let made = k as u64 + 1;
+        if made % TOLD_AFTER == 0 {
+            listener.reached(made);
         }
     }
     Ok(Comparison::Agrees)

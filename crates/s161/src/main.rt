@@ -29,7 +29,8 @@
 //!
 //! `main` only collects the arguments and passes the streams to `start`, which does all work over
 //! any source of files, reader and writers. Where standard input is a terminal, it is told before a schedule
-//! is read from it; and while a command is at work, a thread beside it shows how far it is.
+//! is read from it. Where standard error is one, or `--progress` asks for it, a thread beside a long
+//! command shows how far it is.
 #![tactic(auto)]
 
 ghost use Rattle.std.specs.Prelude.{◌≡◌, ◌≢◌, ◌⊎◌, IfErr};

@@ -57,52 +57,20 @@ where
     ensures within { result ≤ 6 }
 {
     match words {
-        Ok(words) => follow(rt, words.as_slice(), files, input, output, errors, progress),
+        Ok(words) => work(rt, words.as_slice(), files, input, output, errors, progress),
         Err(unread) => report(unread, errors),
     }
 }
 
-/// Does the work of a command line. Returns the exit status: 0 for a finished demo, schedule, debug,
-/// gdb, as or dis, a machine that switched itself off, a log that agrees, a clean run, search or
-/// exploration, or help; 1 for a fault, or a refused event of a run; 2 for a command line that isn't
-/// followed; 3 if the schedule, the events or the Steps of the threads ended; 4 for a log that differs, a
-/// stale use, a run that goes wrong in a search or an exploration, or a conflict that switched a strict
-/// machine off; 5 if a policy is stuck; 6 if an exploration finds more states than it may. The output is
-/// complete in memory before it is written, but for that of `console`, `trace`, `debug` and `gdb`.
+/// Does the work of a command line, and counts how far long work is. Returns the exit status: 0 for a
+/// finished demo, schedule, debug, gdb, as or dis, a machine that switched itself off, a log that agrees, a
+/// clean run, search or exploration, or help; 1 for a fault, or a refused event of a run; 2 for a command
+/// line that isn't followed; 3 if the schedule, the events or the Steps of the threads ended; 4 for a log
+/// that differs, a stale use, a run that goes wrong in a search or an exploration, or a conflict that
+/// switched a strict machine off; 5 if a policy is stuck; 6 if an exploration finds more states than it
+/// may. The output is complete in memory before it is written, but for that of `console`, `trace`, `debug`
+/// and `gdb`.
 pub fn work<A, S, F, I, O, E>(
-    rt: &A,
-    words: &[S],
-    files: &mut F,
-    input: &mut I,
-    output: &mut O,
-    errors: &mut E,
-) -> u8
-where
-    A: AllocGlobal + Threads + Wait + Sync,
-    S: AsStr,
-    F: FileSource,
-    I: Read,
-    O: Write,
-    E: Write,
-    ensures rejected { result ≡ 2 → Rejects (map S.text words.now)
-        (file_use (F.known files.old) (F.asked files.old) (F.asked files.new))
-        (standard (I.remaining input.old) (O.contents output.old) (E.contents errors.old))
-        (standard (I.remaining input.new) (O.contents output.new) (E.contents errors.new)) }
-    ensures finished { IsDone result → Follows (map S.text words.now)
-        (file_use (F.known files.old) (F.asked files.old) (F.asked files.new))
-        (standard (I.remaining input.old) (O.contents output.old) (E.contents errors.old))
-        (standard (I.remaining input.new) (O.contents output.new) (E.contents errors.new)) result }
-    ensures failed { result ≡ 1 → EndsBadly (map S.text words.now)
-        (file_use (F.known files.old) (F.asked files.old) (F.asked files.new))
-        (standard (I.remaining input.old) (O.contents output.old) (E.contents errors.old))
-        (standard (I.remaining input.new) (O.contents output.new) (E.contents errors.new)) }
-    ensures within { result ≤ 6 }
-{
-    follow(rt, words, files, input, output, errors, &Progress::new())
-}
-
-// The same, and counts how far long work is.
-fn follow<A, S, F, I, O, E>(
     rt: &A,
     words: &[S],
     files: &mut F,

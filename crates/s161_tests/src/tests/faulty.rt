@@ -5,6 +5,7 @@ use super::same;
 use super::streams::{Endless, Failing, Left, Memory, OneFile, Slow, all};
 use m161_test_support::files::file_at;
 use m161_test_support::outcomes::ENTRY;
+use s161_progress::Progress;
 use s161_work::work::work;
 use std::io::{ErrorKind, Read};
 use std::sync::Wait;
@@ -116,6 +117,7 @@ fn failing_output_of_a_run(rt: HostRuntime) -> Result<(), Fail> {
             &mut input,
             &mut output,
             &mut errors,
+            &Progress::new(),
         );
         let found = (
             status,

@@ -6,6 +6,7 @@ use super::same;
 use super::streams::{Memory, OneFile, TwoFiles, all};
 use m161_test_support::files::file_at;
 use m161_test_support::outcomes::ENTRY;
+use s161_progress::Progress;
 use s161_work::work::work;
 use std::alloc::Global;
 use std::io;
@@ -115,6 +116,7 @@ fn answers_before_the_next_line(rt: HostRuntime) -> Result<(), Fail> {
             &mut input,
             &mut output,
             &mut errors,
+            &Progress::new(),
         );
         let found = (
             status,
@@ -149,6 +151,7 @@ fn console_bytes_before_the_next_key(rt: HostRuntime) -> Result<(), Fail> {
         &mut input,
         &mut output,
         &mut errors,
+        &Progress::new(),
     );
     let found = (
         status,
@@ -181,6 +184,7 @@ fn trace_pieces(rt: HostRuntime) -> Result<(), Fail> {
         &mut input,
         &mut output,
         &mut errors,
+        &Progress::new(),
     );
     same(&rt, (status, errors.match_text("")), (3, all("")));
     // 4,000 lines of some 40 bytes are more than one piece and fewer than four.

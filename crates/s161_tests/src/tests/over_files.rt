@@ -7,6 +7,7 @@ use super::streams::{Failing, Memory, TwoFiles, all};
 use super::units::LINKED;
 use m161_test_support::files::file_at;
 use m161_test_support::outcomes::ENTRY;
+use s161_progress::Progress;
 use s161_work::work::work;
 use std::io::ErrorKind;
 use std::process::Abort;
@@ -732,6 +733,7 @@ fn failing_output_of_a_verdict(rt: HostRuntime) -> Result<(), Fail> {
             &mut input,
             &mut output,
             &mut errors,
+            &Progress::new(),
         );
         let found = (
             status,

@@ -94,6 +94,7 @@ fn run(
         &mut input,
         &mut output,
         &mut errors,
+        &Progress::new(),
     );
     (
         status,

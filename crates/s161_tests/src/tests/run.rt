@@ -6,6 +6,7 @@ use super::streams::{Left, Memory, OneFile, all};
 use m161_test_support::files::file_at;
 use m161_test_support::outcomes::ENTRY;
 use s161_base::files::FileSource;
+use s161_progress::Progress;
 use s161_work::work::work;
 use std::io::Read;
 use std::process::Abort;
@@ -146,7 +147,15 @@ pub(crate) fn work_over<F: FileSource, I: Read>(
 ) -> Left {
     let mut output = Memory::new(rt.alloc(), usize::MAX, true);
     let mut errors = Memory::new(rt.alloc(), usize::MAX, true);
-    let status = work(rt, words, files, input, &mut output, &mut errors);
+    let status = work(
+        rt,
+        words,
+        files,
+        input,
+        &mut output,
+        &mut errors,
+        &Progress::new(),
+    );
     (
         status,
         output.match_text(texts[0]),

@@ -1,6 +1,6 @@
 use Rattle.std.proofs.Common.{refl}
 use Rattle.s161_work.proofs.Refusals.{says_why, unsaid_ends}
-use Rattle.s161_work.proofs.work.follow.Goals as goal
+use Rattle.s161_work.proofs.work.work.Goals as goal
 
 pub returns-in-Err-clause-rejected : goal.returns-in-Err-clause-rejected
 returns-in-Err-clause-rejected g c = λ two.
