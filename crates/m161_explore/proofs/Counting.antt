@@ -7,7 +7,8 @@ use Rattle.m161_explore.specs.Rules.{Rules}
 use Rattle.m161_explore.specs.Lists.{ComesBefore, IsLess, Leads}
 use Rattle.m161_explore.specs.Answers.{IsAny}
 use Rattle.m161_explore.specs.Views.{AreAll, AreDifferent, HaveFewViews, HaveMoreViews, HaveViews, view_at}
-use Rattle.m161_explore.specs.helpers.Search.{IsMade, IsTrail, Searched, event_at, found_at, parent_at, time_of}
+use Rattle.m161_explore.specs.Search.{IsMade, Searched, event_at, found_at, parent_at, time_of}
+use Rattle.m161_explore.specs.helpers.Trails.{IsTrail}
 use Rattle.m161_explore.proofs.Laws.{Laws}
 use Rattle.m161_explore.proofs.Order.{AreBelow, rank, rank-before, rank-turned, rank_from, times_less}
 use Rattle.m161_explore.proofs.Runs.{AreOrdered, all_tried, are_ordered, before_tried, below, below_turned, has_trail, is_covered, rank_turned_less, time_parts, trail_below, trail_leads, turned, turned_back}

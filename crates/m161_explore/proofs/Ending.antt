@@ -6,8 +6,9 @@ use Rattle.m161_explore.specs.helpers.Ends.{flag_at, LinksLead, Spreads, IsSettl
 use Rattle.m161_explore.specs.Rules.{Rules}
 use Rattle.m161_explore.specs.Lists.{CanEnd, IsFirst, IsHung, Leads}
 use Rattle.m161_explore.specs.Views.{view_at}
-use Rattle.m161_explore.specs.helpers.Search.{Searched, Linked, LinksTo, link_at, time_of, IsTrail}
-use Rattle.m161_explore.specs.helpers.Visit.{IsBefore, AreEnds}
+use Rattle.m161_explore.specs.Search.{Searched, Linked, LinksTo, link_at, time_of, IsBefore}
+use Rattle.m161_explore.specs.helpers.Trails.{IsTrail}
+use Rattle.m161_explore.specs.helpers.Visit.{AreEnds}
 use Rattle.m161_explore.proofs.Laws.{Laws}
 use Rattle.m161_explore.proofs.Order.{rank, rank-before, times_less}
 use Rattle.m161_explore.proofs.Runs.{turned, turned_back, below, trail_leads, are_ordered, has_trail, IsCovered, is_covered, all_tried, rank_turned_less}

@@ -8,10 +8,11 @@ use Rattle.m161_explore.specs.Rules.{Rules}
 use Rattle.m161_explore.specs.Lists.{HasStop}
 use Rattle.m161_explore.specs.Answers.{IsClean, IsFound, IsHungFirst, IsJudged, IsOpen}
 use Rattle.m161_explore.specs.Views.{view_at}
-use Rattle.m161_explore.specs.helpers.Search.{Searched, time_of, IsTrail, AreEarlier, root}
+use Rattle.m161_explore.specs.Search.{Searched, time_of, root, IsBefore}
+use Rattle.m161_explore.specs.helpers.Trails.{IsTrail, AreEarlier}
 use Rattle.m161_explore.specs.declared.search.Outcome.{Outcome}
 use Rattle.m161_explore.specs.declared.search.Outcome.TheVariants.{TooMany, WrongFrom}
-use Rattle.m161_explore.specs.helpers.Visit.{IsBefore, AreEnds, Finds}
+use Rattle.m161_explore.specs.helpers.Visit.{AreEnds, Finds}
 use Rattle.m161_explore.proofs.Laws.{Laws}
 use Rattle.m161_explore.proofs.Runs.{none_judged, none_stopped}
 use Rattle.m161_explore.proofs.Steps.{begins, split_place}

@@ -1,7 +1,7 @@
 use Rattle.std.proofs.Common.{◌≡◌, ℕ, sym, ◌∙◌}
 use Rattle.std.specs.Prelude.{None, Some}
 use Rattle.m161_explore.specs.Rules.{Rules}
-use Rattle.m161_explore.specs.helpers.Search.{IsClear}
+use Rattle.m161_explore.specs.Search.{IsClear}
 
 -- the laws of a system
 pub record Laws {S V R : Type 0} (r : Rules S V R) (is_valid : S → Type 0) : Type 0 where

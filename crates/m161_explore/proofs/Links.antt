@@ -3,7 +3,7 @@ use Rattle.std.specs.Prelude.{Option, Some, None}
 use Rattle.std.proofs.lemmas.List.{get_or_append_left, get_or_push, length_push}
 use Rattle.m161_explore.specs.Rules.{Rules}
 use Rattle.m161_explore.specs.Views.{view_at}
-use Rattle.m161_explore.specs.helpers.Search.{Linked, LinksTo, link_at, time_of}
+use Rattle.m161_explore.specs.Search.{Linked, LinksTo, link_at, time_of}
 use Rattle.m161_explore.proofs.Order.{times_less}
 use Rattle.m161_explore.proofs.Steps.{time_cases, split_place}
 use Rattle.m161_explore.proofs.Laws.{Laws}

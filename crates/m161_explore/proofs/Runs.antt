@@ -9,7 +9,8 @@ use Rattle.m161_explore.specs.Rules.{Rules}
 use Rattle.m161_explore.specs.Lists.{ComesBefore, HasStop, HasVerdict, IsFollowed, Leads}
 use Rattle.m161_explore.specs.Answers.{IsJudged}
 use Rattle.m161_explore.specs.Views.{view_at}
-use Rattle.m161_explore.specs.helpers.Search.{Searched, IsTrail, IsMade, IsClear, IsKnown, parent_at, event_at, found_at, time_of}
+use Rattle.m161_explore.specs.Search.{Searched, IsMade, IsClear, IsKnown, parent_at, event_at, found_at, time_of}
+use Rattle.m161_explore.specs.helpers.Trails.{IsTrail}
 use Rattle.m161_explore.proofs.Order.{rank, rank_from, rank-turned, rank-before, times_less, times_le, AreBelow}
 use Rattle.m161_explore.proofs.Laws.{Laws}
 

@@ -2,7 +2,7 @@ use Rattle.std.proofs.Common.{arith, zero, suc, ◌≡◌, ℕ, ◌+◌, ◌<◌
 use Rattle.std.specs.Prelude.{Bool, true, false, slice_set}
 use Rattle.std.proofs.lemmas.Bool.{cases_eq}
 use Rattle.m161_explore.specs.helpers.Ends.{flag_at, LinksLead, CanReach, Spreads, unset}
-use Rattle.m161_explore.specs.helpers.Search.{link_at}
+use Rattle.m161_explore.specs.Search.{link_at}
 
 pub spread_none : (width : ℕ) (links : List ℕ) (flags : List Bool) → Spreads width links flags flags
 spread_none width links flags = record { size = refl; kept = λ j h. h; reached = λ j h. ([], j, refl, h) }

@@ -5,7 +5,7 @@ use Rattle.std.proofs.lemmas.List.{get_or_append_left, get_or_push, length_push}
 use Rattle.m161_explore.specs.declared.graph.Node.{Node}
 use Rattle.m161_explore.specs.Rules.{Rules}
 use Rattle.m161_explore.specs.Views.{view_at}
-use Rattle.m161_explore.specs.helpers.Search.{IsClear, IsMade, Searched, event_at, found_at, parent_at, root, time_of}
+use Rattle.m161_explore.specs.Search.{IsClear, IsMade, Searched, event_at, found_at, parent_at, root, time_of}
 use Rattle.m161_explore.proofs.Order.{times_less}
 use Rattle.m161_explore.proofs.Laws.{Laws, clear_alike}
 

@@ -10,7 +10,8 @@ use Rattle.m161_explore.specs.Answers.{IsFound, IsOpen, IsStopped}
 use Rattle.m161_explore.specs.Views.{view_at}
 use Rattle.m161_explore.specs.declared.views.Entry.{Entry}
 use Rattle.m161_explore.specs.helpers.Entering.{Enters}
-use Rattle.m161_explore.specs.helpers.Search.{IsClear, IsTrail, Linked, LinksTo, Searched, time_of}
+use Rattle.m161_explore.specs.Search.{IsClear, Linked, LinksTo, Searched, time_of}
+use Rattle.m161_explore.specs.helpers.Trails.{IsTrail}
 use Rattle.m161_explore.specs.helpers.Visit.{HasPassed, IsAt}
 use Rattle.m161_explore.proofs.Laws.{Laws}
 use Rattle.m161_explore.proofs.Links.{linked_more, linked_next}

@@ -3,5 +3,5 @@ pub mod Ends
 pub mod Entering
 pub mod Keys
 pub mod Pieces
-pub mod Search
+pub mod Trails
 pub mod Visit

@@ -1,7 +1,7 @@
 //! From which states the events lead to an end.
 ghost use Rattle.std.specs.Prelude.{◌≡◌, ℕ, ◌+◌, ◌*◌, ◌<◌, ◌≤◌, true, false, length, MatchOption, IsTrue};
 ghost use Rattle.m161_explore.specs.helpers.Ends.{IsSettledAt, IsSettled, Spreads, flag_at, unset};
-ghost use Rattle.m161_explore.specs.helpers.Search.{link_at};
+ghost use Rattle.m161_explore.specs.Search.{link_at};
 
 /// Whether a link leads to a state with a flag.
 fn is_flagged(flags: &[bool], link: u32) -> bool

@@ -1,6 +1,6 @@
 //! The states that were found, and how.
 ghost use Rattle.std.specs.Prelude.{◌≡◌, ℕ, ◌<◌, List, [], ◌∷◌, length, reverse, IfOk};
-ghost use Rattle.m161_explore.specs.helpers.Search.{AreEarlier, IsTrail};
+ghost use Rattle.m161_explore.specs.helpers.Trails.{AreEarlier, IsTrail};
 
 use super::views::Views;
 use std::alloc::{AllocError, Global};

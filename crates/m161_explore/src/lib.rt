@@ -22,8 +22,10 @@ mod hash;
 mod keys;
 mod search;
 mod system;
+mod unfinished;
 mod views;
 mod whole;
 
 pub use system::{Advanced, System};
+pub use unfinished::{Unfinished, begin, go_on};
 pub use whole::{Answer, explore, explore_with};

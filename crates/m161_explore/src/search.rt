@@ -1,7 +1,8 @@
 //! The search, a state after the other.
 ghost use Rattle.std.specs.Prelude.{◌≡◌, ℕ, ◌+◌, ◌<◌, ◌≤◌, IfOk, OnOk, length};
 ghost use Rattle.m161_explore.specs.Views.{view_at};
-ghost use Rattle.m161_explore.specs.helpers.Visit.{AreRefused, Finds, HasPassed, HasRefused, IsAt, IsBefore, Visits};
+ghost use Rattle.m161_explore.specs.Search.{IsBefore};
+ghost use Rattle.m161_explore.specs.helpers.Visit.{AreRefused, FindsBefore, HasPassed, HasRefused, IsAt, Visits};
 
 use super::graph::{Graph, Node};
 use super::system::{Advanced, System};
@@ -219,37 +220,45 @@ fn expand<S: System>(
     }
 }
 
-/// Tries all events of all states.
+/// Tries all events of the states from one on, before another one.
+/// `None` where there are states behind these.
 pub fn search<S: System, L: Listener>(
     alloc: Global,
     system: &S,
     state: &mut S::State,
     words: &mut Vec<u32>,
+    here: &mut Vec<u32>,
     graph: &mut Graph,
+    first: u32,
+    end: u32,
     limit: u32,
     listener: &L,
-) -> Result<Outcome<S::Verdict, S::Reason>, AllocError>
+) -> Result<Option<Outcome<S::Verdict, S::Reason>>, AllocError>
     requires ready { S.is_ready system.now state.old }
-    requires before { IsBefore (S.rules system.now) (S.is_valid system.now) graph.old.keys graph.old.nodes.items graph.old.links.items 0 }
+    requires before { IsBefore (S.rules system.now) (S.is_valid system.now) graph.old.keys graph.old.nodes.items graph.old.links.items first }
     requires few { length graph.old.keys ≤ limit }
+    requires order { first ≤ end }
     ensures ready { OnOk result (S.is_ready system.now state.new) }
     ensures few { OnOk result (length graph.new.keys ≤ limit) }
-    ensures finds { IfOk result (Finds (S.rules system.now) (S.is_valid system.now) limit graph.new.keys graph.new.nodes.items graph.new.links.items) }
+    ensures finds { IfOk result (FindsBefore (S.rules system.now) (S.is_valid system.now) limit graph.new.keys graph.new.nodes.items graph.new.links.items end) }
 {
-    let mut here = Vec::new(alloc);
-    for from in 0..limit {
+    for from in first..end {
         if from as usize == graph.keys.len() {
-            return Ok(Outcome::Whole);
+            return Ok(Some(Outcome::Whole));
         }
         listener.reached(graph.keys.len() as u64);
-        match expand(alloc, system, state, words, &mut here, graph, from, limit)? {
+        match expand(alloc, system, state, words, here, graph, from, limit)? {
             Visit::Went => {}
-            Visit::FoundWrong(event, verdict) => return Ok(Outcome::WrongFrom(
+            Visit::FoundWrong(event, verdict) => return Ok(Some(Outcome::WrongFrom(
                 from, event, verdict,
-            )),
-            Visit::Full => return Ok(Outcome::TooMany(from)),
-            Visit::StoppedBy(reason) => return Ok(Outcome::StoppedFor(reason)),
+            ))),
+            Visit::Full => return Ok(Some(Outcome::TooMany(from))),
+            Visit::StoppedBy(reason) => return Ok(Some(Outcome::StoppedFor(reason))),
         }
     }
-    Ok(Outcome::Whole)
+    if end as usize == graph.keys.len() {
+        Ok(Some(Outcome::Whole))
+    } else {
+        Ok(None)
+    }
 }

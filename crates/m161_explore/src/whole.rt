@@ -1,12 +1,14 @@
 //! The whole exploration.
 ghost use Rattle.std.specs.Prelude.{◌≡◌, ℕ, ◌+◌, ◌<◌, ◌≤◌, ◌^◌, IfOk, OnOk, length};
 ghost use Rattle.m161_explore.specs.Answers.{Answers};
-ghost use Rattle.m161_explore.specs.helpers.Visit.{AreEnds, IsBefore};
+ghost use Rattle.m161_explore.specs.Search.{IsBefore};
+ghost use Rattle.m161_explore.specs.helpers.Visit.{AreEnds, Finds};
 
 use super::ends::{first_unflagged, spread_all};
-use super::graph::{Graph, path_to, start_alone, trail_of};
-use super::search::{Outcome, search};
+use super::graph::{Graph, path_to, trail_of};
+use super::search::Outcome;
 use super::system::System;
+use super::unfinished::{begin, go_on};
 use m161_progress::{Listener, Nobody};
 use std::alloc::{AllocError, Global};
 
@@ -90,6 +92,38 @@ fn judge<S: System>(
     }
 }
 
+/// What a search says of the system.
+pub(crate) fn answer_of<S: System>(
+    alloc: Global,
+    system: &S,
+    state: &mut S::State,
+    graph: &Graph,
+    outcome: Outcome<S::Verdict, S::Reason>,
+    limit: u32,
+) -> Result<Answer<S::Verdict, S::Reason>, AllocError>
+    requires ready { S.is_ready system.now state.old }
+    requires finds { Finds (S.rules system.now) (S.is_valid system.now) limit graph.now.keys graph.now.nodes.items graph.now.links.items outcome }
+    requires few { length graph.now.keys ≤ limit }
+    ensures { IfOk result (Answers (S.rules system.now) limit) }
+{
+    match outcome {
+        Outcome::Whole => judge(alloc, system, state, graph, limit),
+        Outcome::WrongFrom(from, event, verdict) => {
+            let mut events = path_to(alloc, &graph.nodes, from)?;
+            events.push(event)?;
+            Ok(Answer::Found {
+                events,
+                verdict,
+                states: graph.keys.len() as u32,
+            })
+        }
+        Outcome::TooMany(from) => Ok(Answer::Open {
+            size: trail_of(alloc, &graph.nodes, from)?.len(),
+        }),
+        Outcome::StoppedFor(reason) => Ok(Answer::Ended(reason)),
+    }
+}
+
 /// Explores all states of a system, as long as they are no more than the limit.
 ///
 /// # Errors
@@ -118,26 +152,10 @@ pub fn explore_with<S: System, L: Listener>(
     requires { 0 < limit }
     ensures { IfOk result (Answers (S.rules system.now) limit) }
 {
-    let mut state = system.start(alloc)?;
-    let mut words = Vec::new(alloc);
-    system.encode(&mut state, &mut words)?;
-    let mut graph = start_alone(alloc, &words)?;
-    match search(
-        alloc, system, &mut state, &mut words, &mut graph, limit, listener,
-    )? {
-        Outcome::Whole => judge(alloc, system, &mut state, &graph, limit),
-        Outcome::WrongFrom(from, event, verdict) => {
-            let mut events = path_to(alloc, &graph.nodes, from)?;
-            events.push(event)?;
-            Ok(Answer::Found {
-                events,
-                verdict,
-                states: graph.keys.len() as u32,
-            })
+    let mut unfinished = begin(alloc, system)?;
+    loop {
+        if let Some(answer) = go_on(alloc, system, &mut unfinished, limit, limit, listener)? {
+            return Ok(answer);
         }
-        Outcome::TooMany(from) => Ok(Answer::Open {
-            size: trail_of(alloc, &graph.nodes, from)?.len(),
-        }),
-        Outcome::StoppedFor(reason) => Ok(Answer::Ended(reason)),
     }
 }

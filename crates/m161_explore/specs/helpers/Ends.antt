@@ -1,5 +1,5 @@
 use Rattle.std.specs.Prelude.{◌≡◌, ℕ, ◌+◌, ◌<◌, Bool, true, false, List, [], ◌∷◌, length, slice_index_or}
-use Rattle.m161_explore.specs.helpers.Search.{link_at}
+use Rattle.m161_explore.specs.Search.{link_at}
 
 -- Which states lead to an end, by their links alone.
 

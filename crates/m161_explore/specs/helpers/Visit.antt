@@ -1,4 +1,4 @@
-use Rattle.std.specs.Prelude.{◌≡◌, ℕ, ◌<◌, ◌≤◌, List, ◌∷◌, length, reverse, Bool, None, Some}
+use Rattle.std.specs.Prelude.{◌≡◌, ℕ, ◌<◌, ◌≤◌, List, ◌∷◌, length, reverse, Bool, Option, None, Some}
 use Rattle.m161_explore.specs.declared.graph.Node.{Node}
 use Rattle.m161_explore.specs.declared.search.Visit.{Visit}
 use Rattle.m161_explore.specs.declared.search.Visit.TheVariants.{Went, FoundWrong, Full, StoppedBy}
@@ -8,7 +8,8 @@ use Rattle.m161_explore.specs.Rules.{Rules}
 use Rattle.m161_explore.specs.Answers.{IsFound, IsOpen, IsStopped}
 use Rattle.m161_explore.specs.Views.{view_at}
 use Rattle.m161_explore.specs.helpers.Ends.{flag_at}
-use Rattle.m161_explore.specs.helpers.Search.{AreEarlier, IsTrail, Linked, Searched, time_of}
+use Rattle.m161_explore.specs.Search.{IsBefore, Linked, Searched, time_of}
+use Rattle.m161_explore.specs.helpers.Trails.{AreEarlier, IsTrail}
 
 -- what a search knows before it tries the event e of state i
 pub record IsAt {S V R : Type 0} (r : Rules S V R) (is_valid : S → Type 0) (views : List (List ℕ)) (nodes : List Node) (links : List ℕ) (i e : ℕ) : Type 0 where
@@ -55,17 +56,16 @@ Visits r is_valid limit views nodes links i after (FoundWrong event what) = IsWr
 Visits r is_valid limit views nodes links i after Full = IsFullAt r limit nodes i
 Visits r is_valid limit views nodes links i after (StoppedBy reason) = IsStopped r reason
 
--- all events of the states before i were tried
-pub record IsBefore {S V R : Type 0} (r : Rules S V R) (is_valid : S → Type 0) (views : List (List ℕ)) (nodes : List Node) (links : List ℕ) (i : ℕ) : Type 0 where
-  pub searched : Searched r is_valid views nodes (time_of r.width i 0)
-  pub within : i ≤ length views
-  pub linked : Linked r is_valid views links (time_of r.width i 0)
-
 abbrev pub Finds : {S V R : Type 0} → Rules S V R → (S → Type 0) → ℕ → List (List ℕ) → List Node → List ℕ → Outcome V R → Type 0
 Finds r is_valid limit views nodes links Whole = IsBefore r is_valid views nodes links (length views)
 Finds r is_valid limit views nodes links (WrongFrom from event what) = IsWrongAt r is_valid views nodes links from event what
 Finds r is_valid limit views nodes links (TooMany from) = IsFullAt r limit nodes from
 Finds r is_valid limit views nodes links (StoppedFor reason) = IsStopped r reason
+
+-- what it knows where it was to try the states before the end, and there are others behind them
+abbrev pub FindsBefore : {S V R : Type 0} → Rules S V R → (S → Type 0) → ℕ → List (List ℕ) → List Node → List ℕ → ℕ → Option (Outcome V R) → Type 0
+FindsBefore r is_valid limit views nodes links end (Some outcome) = Finds r is_valid limit views nodes links outcome
+FindsBefore r is_valid limit views nodes links end None = IsBefore r is_valid views nodes links end × (end < length views)
 
 -- the flags say which states are ends
 pub record AreEnds {S V R : Type 0} (r : Rules S V R) (is_valid : S → Type 0) (views : List (List ℕ)) (ends : List Bool) : Type 0 where

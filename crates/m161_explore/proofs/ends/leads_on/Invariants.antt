@@ -1,6 +1,6 @@
 use Rattle.std.proofs.Common.{◌≡◌, ℕ, ◌+◌, ◌<◌, false}
 use Rattle.m161_explore.specs.helpers.Ends.{flag_at}
-use Rattle.m161_explore.specs.helpers.Search.{link_at}
+use Rattle.m161_explore.specs.Search.{link_at}
 use Rattle.m161_explore.proofs.ends.leads_on.Given as goal
 
 abbrev pub invariant-loop-event : goal.invariant-loop-event

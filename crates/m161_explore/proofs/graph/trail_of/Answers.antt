@@ -1,6 +1,6 @@
 use Rattle.std.proofs.Common.{ℕ, List, [], subst}
 use Rattle.std.proofs.lemmas.List.{append-nil}
-use Rattle.m161_explore.specs.helpers.Search.{IsTrail}
+use Rattle.m161_explore.specs.helpers.Trails.{IsTrail}
 use Rattle.m161_explore.proofs.graph.trail_of.Goals as goal
 
 pub returns : goal.returns

@@ -1,5 +1,5 @@
 use Rattle.std.proofs.Common.{ℕ, ◌<◌, List, ◌++◌, length}
-use Rattle.m161_explore.specs.helpers.Search.{IsTrail}
+use Rattle.m161_explore.specs.helpers.Trails.{IsTrail}
 use Rattle.m161_explore.proofs.graph.trail_of.Given as goal
 
 abbrev pub invariant-loop-here : goal.invariant-loop-here

@@ -1,5 +1,5 @@
 use Rattle.std.proofs.Common.{◌≤◌, length}
-use Rattle.m161_explore.specs.helpers.Visit.{IsBefore}
+use Rattle.m161_explore.specs.Search.{IsBefore}
 use Rattle.m161_explore.proofs.search.search.Given as goal
 
 abbrev pub invariant-loop-from : goal.invariant-loop-from

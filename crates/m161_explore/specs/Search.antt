@@ -1,9 +1,9 @@
-use Rattle.std.specs.Prelude.{◌≡◌, ℕ, ◌+◌, ◌*◌, ◌<◌, ◌≤◌, List, [], ◌∷◌, length, slice_index_or, Option, None, Some}
+use Rattle.std.specs.Prelude.{◌≡◌, ℕ, ◌+◌, ◌*◌, ◌<◌, ◌≤◌, List, length, slice_index_or, Option, None, Some}
 use Rattle.m161_explore.specs.declared.graph.Node.{Node}
 use Rattle.m161_explore.specs.Rules.{Rules}
 use Rattle.m161_explore.specs.Views.{view_at}
 
--- What a search knows, for the contracts of its parts.
+-- What a search knows.
 
 abbrev pub root : Node
 root = record { parent = 0; event = 0 }
@@ -13,12 +13,6 @@ parent_at nodes j = (slice_index_or nodes j root).parent
 
 abbrev pub event_at : List Node → ℕ → ℕ
 event_at nodes j = (slice_index_or nodes j root).event
-
--- the events from the start to the state with number j, the last one first
-abbrev pub IsTrail : List Node → ℕ → List ℕ → Type 0
-IsTrail nodes j [] = j ≡ 0
-IsTrail nodes j (e ∷ es) =
-    (0 < j) × (j < length nodes) × (event_at nodes j ≡ e) × IsTrail nodes (parent_at nodes j) es
 
 -- when the event e of state i is tried
 abbrev pub time_of : ℕ → ℕ → ℕ → ℕ
@@ -74,6 +68,8 @@ pub record Linked {S V R : Type 0} (r : Rules S V R) (is_valid : S → Type 0) (
   pub each : (a b : ℕ) (s : S) → a < length views → b < r.width → time_of r.width a b < now →
       is_valid s → r.view s ≡ view_at views a → LinksTo r views (r.next s b) (link_at r.width links a b)
 
--- each state but the first comes from an earlier one
-abbrev pub AreEarlier : List Node → Type 0
-AreEarlier nodes = (j : ℕ) → 0 < j → j < length nodes → parent_at nodes j < j
+-- all events of the states before i were tried
+pub record IsBefore {S V R : Type 0} (r : Rules S V R) (is_valid : S → Type 0) (views : List (List ℕ)) (nodes : List Node) (links : List ℕ) (i : ℕ) : Type 0 where
+  pub searched : Searched r is_valid views nodes (time_of r.width i 0)
+  pub within : i ≤ length views
+  pub linked : Linked r is_valid views links (time_of r.width i 0)
