@@ -19,7 +19,7 @@ use std::alloc::{AllocError, Global};
 use std::convert::AsStr;
 
 /// What `--version` tells.
-const VERSION: &str = "1.13";
+const VERSION: &str = "1.14";
 
 // A command, with these arguments added in turn.
 fn with_arguments<'a>(
