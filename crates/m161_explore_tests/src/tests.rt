@@ -2,7 +2,8 @@
 
 use crate::long::{Long, Shape};
 use crate::table::Table;
-use m161_explore::{Answer, explore};
+use m161_explore::{Answer, begin, explore, go_on};
+use m161_progress::Nobody;
 use std::test::Fail;
 
 /// From 0 to 1 or 2, and from these to 3; 1 can also be stayed at.
@@ -199,5 +200,18 @@ fn states_with_long_views_are_made_again(rt: HostRuntime) -> Result<(), Fail> {
             _ => assert!(rt; false),
         }
     }
+    Ok(())
+}
+
+#[test]
+fn in_parts(rt: HostRuntime) -> Result<(), Fail> {
+    let mut unfinished = begin(rt.alloc(), &DIAMOND)?;
+    assert!(rt; unfinished.states() == 1);
+    let None = go_on(rt.alloc(), &DIAMOND, &mut unfinished, 9, 2, &Nobody)? else {
+        return Err(Fail::new("an answer behind two states"));
+    };
+    assert!(rt; unfinished.states() == 4);
+    let last = go_on(rt.alloc(), &DIAMOND, &mut unfinished, 9, 9, &Nobody)?;
+    assert!(rt; matches!(last, Some(Answer::Clean { states: 4 })));
     Ok(())
 }

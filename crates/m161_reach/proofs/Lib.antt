@@ -20,4 +20,5 @@ mod Learning
 mod Walking
 mod Naming
 mod Numbering
+mod Parts
 mod Marking

@@ -11,7 +11,7 @@ use Rattle.m161_judge.specs.Verdict.{after}
 use Rattle.m161_states.specs.Question.{Question, booted, processors_of}
 use Rattle.m161_states.specs.System.{event_named, typed_after}
 use Rattle.m161_reach.specs.Hangs.{CutKeepsHang, HangFirst, HangingAreMade, HangsNowhere, IsFirstHang, IsFreeAt, IsHungAt, NeverHang}
-use Rattle.m161_reach.specs.Named.{NamedAreMade, NumbersName, events_named, events_of, number_of, number_of_key, numbers_named, numbers_of, with_event, with_number}
+use Rattle.m161_reach.specs.Named.{NamedAreMade, NumbersName, events_named, number_of, number_of_key, numbers_named, numbers_of, with_event, with_number}
 use Rattle.m161_reach.proofs.Walking.{goes_less}
 
 -- The numbers of events.

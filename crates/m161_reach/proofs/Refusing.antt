@@ -1,4 +1,4 @@
-use Rattle.std.proofs.Common.{◌≡◌, ◌∙◌, refl, ap, ℕ, ◌<◌, ◌≤◌, zero, suc, arith, Bool, true, false, List, [], ◌∷◌, length, Option, None, Some}
+use Rattle.std.proofs.Common.{◌≡◌, ◌∙◌, refl, ap, ℕ, ◌<◌, ◌≤◌, zero, suc, arith, Bool, true, false, List, [], ◌∷◌, length, Option, None}
 use Rattle.std.specs.Prelude.{Err, Result, option_map, slice_get}
 use Rattle.m161_bus.specs.Board.{with_console}
 use Rattle.m161_bus.specs.Console.{done_from}

@@ -8,6 +8,7 @@ pub use Rattle.m161_states.specs.Laws
 pub mod Hand
 pub mod Met
 pub mod Reach
+pub mod Exploring
 pub mod From
 pub mod Hangs
 pub mod Named

@@ -14,6 +14,7 @@
 
 mod advance;
 mod encode;
+mod exploring;
 mod hand;
 mod hang;
 mod hang_laws;
@@ -31,6 +32,7 @@ mod system;
 mod walk;
 mod whole;
 
+pub use exploring::{Exploring, begin_machine, go_on_machine};
 pub use hand::Hand;
 pub use hang::first_hang;
 pub use hang_laws::{cut_keeps_hang, free_before, hanging_are_made, hung_is_hung, hung_never_ends};

@@ -7,7 +7,10 @@ use m161::Core;
 use m161_explore::Answer;
 use m161_judge::Goal;
 use m161_machine::{Conf, Event, LinkUnit};
-use m161_reach::{Exploration, Machines, can_be_asked, explore_machine, first_hang};
+use m161_progress::Nobody;
+use m161_reach::{
+    Exploration, Machines, begin_machine, can_be_asked, explore_machine, first_hang, go_on_machine,
+};
 use m161_states::{Known, Reads, Unknown, Verdict};
 use m161_test_support::files::file_at;
 use m161_test_support::outcomes::ENTRY;
@@ -121,6 +124,33 @@ fn numbers(answer: &Answer<Verdict, Unknown>) -> (u32, usize, u32) {
 /// Fails the test where an answer has other numbers.
 fn check(rt: &impl Abort, found: &Exploration, expected: (u32, usize, u32)) {
     same(rt, numbers(&found.answer), expected);
+}
+
+#[test]
+fn in_parts(rt: HostRuntime) -> Result<(), Fail> {
+    let alloc = rt.alloc();
+    let core = booted(&rt, &SPINS)?;
+    let goal = Goal {
+        watches: &[],
+        never: &[],
+        output: None,
+        keys: &[],
+    };
+    if !can_be_asked(&core, &goal) {
+        return Err(Fail::new("a machine at boot can be asked"));
+    }
+    let mut exploring = begin_machine(alloc, &core, &goal)?;
+    same(&rt, exploring.states(), 1);
+    let None = go_on_machine(alloc, &core, &goal, &mut exploring, 100, 1, &Nobody)? else {
+        return Err(Fail::new("an answer behind one state"));
+    };
+    same(&rt, exploring.states(), 2);
+    let last = go_on_machine(alloc, &core, &goal, &mut exploring, 100, 100, &Nobody)?;
+    match last {
+        Some(answer) => same(&rt, numbers(&answer), (2, 0, 2)),
+        None => return Err(Fail::new("no answer behind all states")),
+    }
+    Ok(())
 }
 
 #[test]

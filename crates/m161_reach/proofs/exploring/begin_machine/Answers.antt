@@ -6,8 +6,8 @@ use Rattle.m161_reach.specs.Reach.{IsMet, rules_of}
 use Rattle.m161_reach.proofs.Knowing.{nothing_learnt}
 use Rattle.m161_reach.proofs.exploring.begin_machine.Goals as goal
 
-pub returns-in_ok-unfinished : goal.returns-in_ok-unfinished
-returns-in_ok-unfinished g c = λ limit some.
+pub returns : goal.returns
+returns g c = λ limit some.
     let P : Question → Type 0 = λ q. IsUnfinished (rules_of q) (IsMet q) (IsReady q) limit c.in_ok-unfinished.unfinished in
     record {
       unfinished = subst P c.new.ensures (c.in_ok-unfinished.ensures limit some);
