@@ -144,7 +144,7 @@ typedef struct {
 
 /* What an exploration found. */
 typedef struct {
-    uint32_t kind;   /* TALUSDISH_CLEAN to TALUSDISH_OPEN */
+    uint32_t kind;   /* TALUSDISH_CLEAN to TALUSDISH_UNFINISHED */
     uint32_t states; /* clean, hung: how many different states there are; found: before the list; open: 0 */
     uint64_t events; /* found, hung: how many events the list has; open: up to how many events nothing goes wrong; clean: 0 */
     talusdish_verdict verdict; /* found: what goes wrong; else zeros */
@@ -215,7 +215,8 @@ enum {
     TALUSDISH_CLEAN = 0, /* in whatever order and for however long, nothing goes wrong, and each list of events can come to its end */
     TALUSDISH_FOUND = 1, /* a shortest list of events that goes wrong */
     TALUSDISH_HUNG = 2,  /* nothing goes wrong, and this is a shortest list that no events continue to an end */
-    TALUSDISH_OPEN = 3   /* there are more states than the limit */
+    TALUSDISH_OPEN = 3,  /* there are more states than the limit */
+    TALUSDISH_UNFINISHED = 4 /* it has no answer yet; of talusdish_explore_slice alone */
 };
 
 enum { TALUSDISH_STEP = 0, TALUSDISH_KEY = 1, TALUSDISH_DONE = 2 };
@@ -251,10 +252,11 @@ enum {
     TALUSDISH_BAD_WATCH = 22, /* a watch has an identifier, a page or a word that there isn't, or one word for both */
     TALUSDISH_NO_SYMBOL = 24, /* there is no such symbol */
     TALUSDISH_DROPPED = 23,   /* the log doesn't have all events since the machine's boot: it had no room for them */
+    TALUSDISH_MORE = 25,      /* an exploration has no answer yet */
     /* of any call */
     TALUSDISH_BAD = 253,       /* a text isn't UTF-8, or a number means nothing */
     TALUSDISH_NO_MEMORY = 254, /* memory was refused */
-    TALUSDISH_NOTHING = 255    /* the slot is empty, or its session has no machine */
+    TALUSDISH_NOTHING = 255    /* the slot is empty, or its session has no machine, or no exploration that was begun */
 };
 
 /* Opens a session, without a machine and without bytes, in a slot. What the slot held is freed then. False where memory is
@@ -375,6 +377,22 @@ uint8_t talusdish_slice(talusdish_slot *slot, const uint8_t *file, size_t file_s
 uint8_t talusdish_explore(talusdish_slot *slot, uint32_t limit, const uint8_t *keys, size_t keys_size, const talusdish_watch *watches,
                           size_t watches_size, const uint32_t *never, size_t never_size, bool asked, const uint8_t *output,
                           size_t output_size, talusdish_exploration *found);
+
+/* Begins what talusdish_explore does, for a caller that isn't to be held up: talusdish_explore_slice goes on with it. The session keeps a
+ * machine at boot and copies of all that is asked, so that its own machine may go on, or be booted from another file, meanwhile. One
+ * exploration that it had begun before is given up. Its other calls leave it as it is, and a copy of the session has none. 0; else
+ * nothing is changed, and the answer is what talusdish_explore answers of what isn't explored. */
+uint8_t talusdish_explore_begin(talusdish_slot *slot, uint32_t limit, const uint8_t *keys, size_t keys_size, const talusdish_watch *watches,
+                                size_t watches_size, const uint32_t *never, size_t never_size, bool asked, const uint8_t *output,
+                                size_t output_size);
+
+/* A slice of the exploration that the session has begun: tries all events of `number` states more, in about as long as `number` times the
+ * processors and two takes. 0, and it is told, as by talusdish_explore, whose answer it is whatever the slices are; the session has
+ * no exploration then. TALUSDISH_MORE where there is no answer yet: kind TALUSDISH_UNFINISHED and the states that were found are told,
+ * and zeros; they may be fewer than before: where a Step reads Random or Count, whose values aren't looked at until one does, the states are
+ * looked for anew. NO_MEMORY, and nothing is told; the session has no exploration then. NOTHING where it has none. With `number` 0 nothing
+ * is tried. */
+uint8_t talusdish_explore_slice(talusdish_slot *slot, uint32_t number, talusdish_exploration *found);
 
 /* The value of the first symbol of an ELF `file` with this name of `name_size` bytes of UTF-8. 0, and it is told; else nothing is:
  * NO_SYMBOL, BAD for a name that isn't UTF-8, or NO_MEMORY. */

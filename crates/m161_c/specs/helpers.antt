@@ -1,4 +1,5 @@
 -- Definitions that only contracts of private functions, or proofs, use.
+pub mod Begun
 pub mod Explored
 pub mod Listing
 pub mod Offers

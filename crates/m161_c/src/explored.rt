@@ -138,8 +138,8 @@ fn tell_list(
     Ok((found, bytes))
 }
 
-// An answer as numbers, and the numbers of the events of its list.
-fn tell(
+/// An answer as numbers, and the numbers of the events of its list.
+pub(crate) fn tell(
     alloc: Global,
     answer: Answer<Verdict, Unknown>,
 ) -> Result<(Exploration, Vec<u8>), AllocError>

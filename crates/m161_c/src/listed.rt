@@ -436,6 +436,7 @@ impl Session {
         ensures { SeeksListsAs (asked_with file.now numbers.now n
             (criteria_of keys.now watches.now never.now (bytes_of output.entry)) few)
             class.now result found.old found.new self.old self.new }
+        ensures kept { self.new.exploring ≡ self.old.exploring }
     {
         let Some(machine) = &self.machine else {
             return NOTHING;
@@ -472,6 +473,7 @@ impl Session {
         ensures { SeeksSlicesAs (asked_with file.now numbers.now n
             (criteria_of keys.now watches.now never.now (bytes_of output.entry)) few)
             class.now from.now most result slice.old slice.new self.old self.new }
+        ensures kept { self.new.exploring ≡ self.old.exploring }
     {
         let Some(machine) = &self.machine else {
             return NOTHING;

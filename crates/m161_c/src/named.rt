@@ -63,6 +63,7 @@ impl Session {
         distance: &mut u32,
     ) -> u8
         ensures { NearestAs file.now address result distance.old distance.new self.old self.new }
+        ensures kept { self.new.exploring ≡ self.old.exploring }
     {
         match nearest_of(alloc, file, address) {
             Ok((name, behind)) => {

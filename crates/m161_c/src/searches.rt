@@ -2,10 +2,11 @@
 
 ghost use Rattle.std.specs.Prelude.{◌≡◌, None, map};
 ghost use Rattle.m161_judge.specs.Judge.{bytes_of as bytes_of_output};
+ghost use Rattle.m161_c.specs.Begun.{BeginsAs, SlicesAs};
 ghost use Rattle.m161_c.specs.Delays.{SeeksListsAs};
 ghost use Rattle.m161_c.specs.Explored.{ExploresAs, criteria_of, output_in, watch_of};
 ghost use Rattle.m161_c.specs.Judged.{AuditsAs, JudgesAs};
-ghost use Rattle.m161_c.specs.Runs.{AtSlot, machine_of};
+ghost use Rattle.m161_c.specs.Runs.{AtSession, AtSlot, machine_of};
 ghost use Rattle.m161_c.specs.Search.{SearchesOf};
 ghost use Rattle.m161_c.specs.Seeds.{SeeksAs, asked_with};
 ghost use Rattle.m161_c.specs.Slices.{SeeksSlicesAs};
@@ -199,6 +200,55 @@ pub extern "C" fn talusdish_explore(
     };
     let output = output_of(asked, output);
     let answer = session.explore(alloc, limit, keys, watches, never, output, found);
+    slot.put(alloc, session);
+    answer
+}
+
+/// Begins what `talusdish_explore` does, to be gone on with by `talusdish_explore_slice`; an exploration that
+/// the session had begun is given up. The session keeps a machine at boot and what is asked, so that its own
+/// machine may do or become what it will. 0, or what `talusdish_explore` answers of what can't be explored.
+#[unsafe(no_mangle)]
+pub extern "C" fn talusdish_explore_begin(
+    alloc: Global,
+    slot: &mut Slot,
+    limit: u32,
+    keys: &[u8],
+    watches: &[WatchNumbers],
+    never: &[u32],
+    asked: bool,
+    output: &[u8],
+) -> u8
+    ensures { AtSession slot.old.handle.session result slot.new.handle.session (BeginsAs limit
+        (criteria_of keys.now watches.now never.now (output_in asked output.now)) result) }
+{
+    let Some(mut session) = slot.take(alloc) else {
+        return NOTHING;
+    };
+    let output = output_of(asked, output);
+    let answer = session.begin(alloc, limit, keys, watches, never, output);
+    slot.put(alloc, session);
+    answer
+}
+
+/// A slice of the exploration that the session has begun: tries all events of so many states more. 0, and the
+/// answer is told, as by `talusdish_explore`; or 25, and it is told how many states were found until now: they
+/// may be fewer than before, where a Step reads of time what wasn't known, since the states are looked for
+/// anew then. Behind an answer, and where memory is refused, the session has no exploration.
+#[unsafe(no_mangle)]
+pub extern "C" fn talusdish_explore_slice(
+    alloc: Global,
+    slot: &mut Slot,
+    number: u32,
+    found: &mut Exploration,
+) -> u8
+    ensures run { AtSession slot.old.handle.session result slot.new.handle.session
+        (SlicesAs number result found.old found.new) }
+    ensures none { slot.old.handle.session ≡ None → found.new ≡ found.old }
+{
+    let Some(mut session) = slot.take(alloc) else {
+        return NOTHING;
+    };
+    let answer = session.go_on(alloc, number, found);
     slot.put(alloc, session);
     answer
 }

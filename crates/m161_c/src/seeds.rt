@@ -366,6 +366,7 @@ impl Session {
         ensures { SeeksAs (asked_with file.now numbers.now n
             (criteria_of keys.now watches.now never.now (bytes_of output.entry)) few)
             count result found.old found.new self.old self.new }
+        ensures kept { self.new.exploring ≡ self.old.exploring }
     {
         let Some(machine) = &self.machine else {
             return NOTHING;

@@ -194,6 +194,7 @@ impl Session {
     ) -> u8
         ensures { ExploresAs limit (criteria_of keys.now watches.now never.now (bytes_of output.entry))
             result found.old found.new self.old self.new }
+        ensures kept { self.new.exploring ≡ self.old.exploring }
     {
         let Some(machine) = &self.machine else {
             return NOTHING;
@@ -289,6 +290,7 @@ impl Session {
 
     pub(crate) fn keep_log(&mut self, alloc: Global) -> u8
         ensures { HoldsOf self.old.machine log_of result self.old self.new }
+        ensures kept { self.new.exploring ≡ self.old.exploring }
     {
         let text = match &self.machine {
             Some(machine) => log_of(alloc, machine),
