@@ -6,14 +6,12 @@ use Rattle.m161_explore.specs.declared.whole.Answer.{Answer}
 use Rattle.m161_explore.specs.declared.whole.Answer.TheVariants.{Clean, Found, Hung, Open, Ended}
 use Rattle.m161_explore.specs.Answers.{Answers}
 use Rattle.m161_judge.specs.Verdict.{Criteria}
-use Rattle.m161_machine.specs.History.{History, boot_state}
 use Rattle.m161_machine.specs.State.{State}
 use Rattle.m161_reach.specs.Reach.{CanBeAsked, IsLearnt, question_of, rules_of}
 use Rattle.m161_states.specs.declared.verdict.Unknown.{Unknown}
 use Rattle.m161_states.specs.declared.verdict.Verdict.{Verdict}
 use Rattle.m161_c.specs.declared.answer.Exploration.{Exploration}
 use Rattle.m161_c.specs.declared.answer.WatchNumbers.{WatchNumbers}
-use Rattle.m161_c.specs.declared.session.Session.{Session}
 use Rattle.m161_c.specs.Verdicts.{as_run, no_verdict, run_verdict}
 
 -- The exploration of all states of a machine.
@@ -80,17 +78,3 @@ IsRefused boot goal answer =
 abbrev pub IsUnexplored : State → ℕ → Criteria → ℕ → Type 0
 IsUnexplored boot limit goal answer =
     (limit ≡ 0) × (answer ≡ 253) ⊎ (0 < limit) × IsRefused boot goal answer
-
--- the machine of a session is explored; or nothing is changed and nothing told
-abbrev pub ExploresFor :
-    Option History → ℕ → Criteria → ℕ → Exploration → Exploration → Session → Session → Type 0
-ExploresFor None limit goal answer before after s t =
-    (answer ≡ 255) × (after ≡ before) × (t ≡ s)
-ExploresFor (Some m) limit goal answer before after s t =
-    (answer ≡ 0) × IsExplored (boot_state m.start) limit goal after t.bytes.items × (t.machine ≡ s.machine)
-    ⊎ IsUnexplored (boot_state m.start) limit goal answer × (after ≡ before) × (t ≡ s)
-
-abbrev pub ExploresAs :
-    ℕ → Criteria → ℕ → Exploration → Exploration → Session → Session → Type 0
-ExploresAs limit goal answer before after s t =
-    ExploresFor s.machine limit goal answer before after s t

@@ -5,7 +5,8 @@ ghost use Rattle.m161_judge.specs.Judge.{bytes_of};
 ghost use Rattle.m161_machine.specs.History.{boot_state};
 ghost use Rattle.m161_reach.specs.Exploring.{IsExploring};
 ghost use Rattle.m161_reach.specs.Reach.{CanBeAsked, IsAtBoot};
-ghost use Rattle.m161_c.specs.Begun.{BeginsAs, IsOf, SlicesAs, unfinished};
+ghost use Rattle.m161_c.specs.Begun.{IsOf, unfinished};
+ghost use Rattle.m161_c.specs.Explores.{BeginsAs, SlicesAs};
 ghost use Rattle.m161_c.specs.Explored.{AreAllGood, IsRefused, IsUnexplored, criteria_of};
 ghost use Rattle.m161_c.specs.helpers.Begun.{Comes, IsBegunOf};
 
@@ -165,6 +166,16 @@ pub(crate) fn begin(
     }
 }
 
+// The bytes, if there are some.
+fn slice_of<'a>(output: &'a Option<Vec<u8>>) -> Option<&'a [u8]>
+    ensures { bytes_of result ≡ option_map (λ bytes. bytes.items) output.now }
+{
+    match output {
+        Some(bytes) => Some(bytes.as_slice()),
+        None => None,
+    }
+}
+
 /// What a slice of an exploration came to.
 #[derive(Drop)]
 pub(crate) enum Slice {
@@ -187,13 +198,11 @@ pub(crate) fn go_on(alloc: Global, begun: Begun, number: u32) -> Result<Slice, A
         limit,
         mut exploring,
     } = begun;
+    let asked = slice_of(&output);
     let goal = Goal {
         watches: &watches,
         never: &never,
-        output: match &output {
-            Some(bytes) => Some(bytes.as_slice()),
-            None => None,
-        },
+        output: asked,
         keys: &keys,
     };
     match go_on_machine(alloc, &boot, &goal, &mut exploring, limit, number, &Nobody)? {

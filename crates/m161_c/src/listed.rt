@@ -433,7 +433,7 @@ impl Session {
         output: Option<&[u8]>,
         found: &mut SoughtList,
     ) -> u8
-        ensures { SeeksListsAs (asked_with file.now numbers.now n
+        ensures does { SeeksListsAs (asked_with file.now numbers.now n
             (criteria_of keys.now watches.now never.now (bytes_of output.entry)) few)
             class.now result found.old found.new self.old self.new }
         ensures kept { self.new.exploring ≡ self.old.exploring }
@@ -470,7 +470,7 @@ impl Session {
         output: Option<&[u8]>,
         slice: &mut SoughtSlice,
     ) -> u8
-        ensures { SeeksSlicesAs (asked_with file.now numbers.now n
+        ensures does { SeeksSlicesAs (asked_with file.now numbers.now n
             (criteria_of keys.now watches.now never.now (bytes_of output.entry)) few)
             class.now from.now most result slice.old slice.new self.old self.new }
         ensures kept { self.new.exploring ≡ self.old.exploring }

@@ -62,7 +62,7 @@ impl Session {
         address: u32,
         distance: &mut u32,
     ) -> u8
-        ensures { NearestAs file.now address result distance.old distance.new self.old self.new }
+        ensures does { NearestAs file.now address result distance.old distance.new self.old self.new }
         ensures kept { self.new.exploring ≡ self.old.exploring }
     {
         match nearest_of(alloc, file, address) {

@@ -2,9 +2,10 @@
 
 ghost use Rattle.std.specs.Prelude.{◌≡◌, None, map};
 ghost use Rattle.m161_judge.specs.Judge.{bytes_of as bytes_of_output};
-ghost use Rattle.m161_c.specs.Begun.{BeginsAs, SlicesAs};
+ghost use Rattle.m161_c.specs.Explores.{BeginsAs, SlicesAs};
 ghost use Rattle.m161_c.specs.Delays.{SeeksListsAs};
-ghost use Rattle.m161_c.specs.Explored.{ExploresAs, criteria_of, output_in, watch_of};
+ghost use Rattle.m161_c.specs.Explored.{criteria_of, output_in, watch_of};
+ghost use Rattle.m161_c.specs.Explores.{ExploresAs};
 ghost use Rattle.m161_c.specs.Judged.{AuditsAs, JudgesAs};
 ghost use Rattle.m161_c.specs.Runs.{AtSession, AtSlot, machine_of};
 ghost use Rattle.m161_c.specs.Search.{SearchesOf};

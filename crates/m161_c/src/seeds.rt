@@ -363,7 +363,7 @@ impl Session {
         output: Option<&[u8]>,
         found: &mut Sought,
     ) -> u8
-        ensures { SeeksAs (asked_with file.now numbers.now n
+        ensures does { SeeksAs (asked_with file.now numbers.now n
             (criteria_of keys.now watches.now never.now (bytes_of output.entry)) few)
             count result found.old found.new self.old self.new }
         ensures kept { self.new.exploring ≡ self.old.exploring }

@@ -2,7 +2,8 @@
 
 ghost use Rattle.std.specs.Prelude.{◌≡◌, ◌<◌, None, Some, IfOk, length, map, string_bytes};
 ghost use Rattle.m161_judge.specs.Judge.{bytes_of};
-ghost use Rattle.m161_c.specs.Explored.{ExploresAs, criteria_of, watch_of};
+ghost use Rattle.m161_c.specs.Explored.{criteria_of, watch_of};
+ghost use Rattle.m161_c.specs.Explores.{ExploresAs};
 ghost use Rattle.m161_c.specs.Judged.{AuditsAs, JudgesAs};
 ghost use Rattle.m161_c.specs.Runs.{HoldsOf, outcome_numbers};
 ghost use Rattle.m161_c.specs.Search.{SearchesOf};
@@ -192,7 +193,7 @@ impl Session {
         output: Option<&[u8]>,
         found: &mut Exploration,
     ) -> u8
-        ensures { ExploresAs limit (criteria_of keys.now watches.now never.now (bytes_of output.entry))
+        ensures does { ExploresAs limit (criteria_of keys.now watches.now never.now (bytes_of output.entry))
             result found.old found.new self.old self.new }
         ensures kept { self.new.exploring ≡ self.old.exploring }
     {
@@ -289,7 +290,7 @@ impl Session {
     }
 
     pub(crate) fn keep_log(&mut self, alloc: Global) -> u8
-        ensures { HoldsOf self.old.machine log_of result self.old self.new }
+        ensures does { HoldsOf self.old.machine log_of result self.old self.new }
         ensures kept { self.new.exploring ≡ self.old.exploring }
     {
         let text = match &self.machine {

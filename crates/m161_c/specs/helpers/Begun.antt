@@ -14,7 +14,7 @@ use Rattle.m161_c.specs.declared.begun.Slice.TheVariants.{Answered, More}
 pub record IsBegunOf (boot : State) (goal : Criteria) (exploring : Exploring) : Type 0 where
   pub good : AreAllGood boot goal
   pub asked : CanBeAsked boot goal
-  pub exploring : (limit : ℕ) → 0 < limit → IsExploring boot goal limit exploring
+  pub begun : (limit : ℕ) → 0 < limit → IsExploring boot goal limit exploring
 
 -- what a slice comes to
 abbrev pub Comes : Begun → ℕ → Slice → Type 0

@@ -5,16 +5,16 @@ use Rattle.m161_c.specs.Delays.{SeeksListsIn, SeeksListsOn, class_in, steps_in}
 use Rattle.m161_c.specs.Seeds.{asked_with}
 use Rattle.m161_c.proofs.session.Session.seek_lists.Goals as goal
 
-pub returns-in_default : goal.returns-in_default
-returns-in_default c =
+pub returns-in_default-clause-does : goal.returns-in_default-clause-does
+returns-in_default-clause-does c =
     let g = criteria_of c.args.keys.now c.args.watches.now c.args.never.now (bytes_of c.args.output) in (
       Err 255,
       subst (λ m. SeeksListsOn m (asked_with c.args.file.now c.args.numbers.now c.args.n g c.args.few) c.args.class.now (Err 255)) (sym c.in_default.is) refl,
       (refl, refl, refl),
     )
 
-pub returns-in-Ok : goal.returns-in-Ok
-returns-in-Ok c =
+pub returns-in-Ok-clause-does : goal.returns-in-Ok-clause-does
+returns-in-Ok-clause-does c =
     let g = criteria_of c.args.keys.now c.args.watches.now c.args.never.now (bytes_of c.args.output) in
     let told = Ok (c.in-Ok.what, c.in-Ok.events.items) in (
       told,
@@ -24,8 +24,8 @@ returns-in-Ok c =
       (refl, refl, refl, refl),
     )
 
-pub returns-in-Err : goal.returns-in-Err
-returns-in-Err c =
+pub returns-in-Err-clause-does : goal.returns-in-Err-clause-does
+returns-in-Err-clause-does c =
     let g = criteria_of c.args.keys.now c.args.watches.now c.args.never.now (bytes_of c.args.output) in
     let why = Err c.in-Err.answer in (
       why,
