@@ -17,7 +17,8 @@
  * another, and there is no state beside them.
  *
  * Errors. Each call on an empty or closed slot is answered: by 255, by false, or by the number 0 where a number is
- * returned. Other answers than 0 are the numbers below. Where memory is refused, the session is as it was.
+ * returned. Other answers than 0 are the numbers below. Where memory is refused, the session is as it was; but where it
+ * is refused to a slice of an exploration, the session has no exploration then.
  *
  * What is trusted: that the pointers point to what their types say (never NULL, but for a buffer of length 0: give any
  * pointer that isn't NULL there too), that lengths are true, that no two arguments overlap, and that bools are 0 or 1.
@@ -145,8 +146,8 @@ typedef struct {
 /* What an exploration found. */
 typedef struct {
     uint32_t kind;   /* TALUSDISH_CLEAN to TALUSDISH_UNFINISHED */
-    uint32_t states; /* clean, hung: how many different states there are; found: before the list; open: 0 */
-    uint64_t events; /* found, hung: how many events the list has; open: up to how many events nothing goes wrong; clean: 0 */
+    uint32_t states; /* clean, hung: how many different states there are; found: before the list; open: 0; unfinished: so far */
+    uint64_t events; /* found, hung: how many events the list has; open: up to how many events nothing goes wrong; else 0 */
     talusdish_verdict verdict; /* found: what goes wrong; else zeros */
 } talusdish_exploration;
 
@@ -256,7 +257,7 @@ enum {
     /* of any call */
     TALUSDISH_BAD = 253,       /* a text isn't UTF-8, or a number means nothing */
     TALUSDISH_NO_MEMORY = 254, /* memory was refused */
-    TALUSDISH_NOTHING = 255    /* the slot is empty, or its session has no machine, or no exploration that was begun */
+    TALUSDISH_NOTHING = 255    /* the slot is empty, or its session has no machine; of talusdish_explore_slice: or no exploration */
 };
 
 /* Opens a session, without a machine and without bytes, in a slot. What the slot held is freed then. False where memory is
@@ -373,25 +374,31 @@ uint8_t talusdish_slice(talusdish_slot *slot, const uint8_t *file, size_t file_s
  * number below that of the processors is a Step of that processor, the next one the end of a transfer, and the one behind it the
  * next key. Else nothing is changed or told, and the answer is the first of these that holds: BAD for a limit of 0; BAD_WATCH; BAD for
  * 2^31 watches, or 2^32 keys or bytes of output. With a limit that isn't 0 it may be NO_MEMORY instead. It takes about a hundred bytes
- * a state, and as long as `s161 explore`. */
+ * a state, and as long as `s161 explore`. It is one call, which can't be stopped: talusdish_explore_slice makes a part of it. */
 uint8_t talusdish_explore(talusdish_slot *slot, uint32_t limit, const uint8_t *keys, size_t keys_size, const talusdish_watch *watches,
                           size_t watches_size, const uint32_t *never, size_t never_size, bool asked, const uint8_t *output,
                           size_t output_size, talusdish_exploration *found);
 
-/* Begins what talusdish_explore does, for a caller that isn't to be held up: talusdish_explore_slice goes on with it. The session keeps a
- * machine at boot and copies of all that is asked, so that its own machine may go on, or be booted from another file, meanwhile. One
- * exploration that it had begun before is given up. Its other calls leave it as it is, and a copy of the session has none. 0; else
- * nothing is changed, and the answer is what talusdish_explore answers of what isn't explored. */
+/* Begins what talusdish_explore does, for a caller that isn't to be held up: talusdish_explore_slice goes on with it. 0, and the session
+ * has this exploration, in the place of one that it had. The exploration has a machine at boot of its own, and copies of all that is
+ * asked: between slices the session's machine may make events, another file may be booted, and the buffers may be written to. Else
+ * nothing is changed, so that an exploration before stays, and the answer is what talusdish_explore answers of what isn't explored.
+ * No call but these two, and those that free the session, changes a session's exploration; a copy of the session has none. Until its
+ * answer is told it takes the machine's RAM a few times, and about a hundred bytes a state. */
 uint8_t talusdish_explore_begin(talusdish_slot *slot, uint32_t limit, const uint8_t *keys, size_t keys_size, const talusdish_watch *watches,
                                 size_t watches_size, const uint32_t *never, size_t never_size, bool asked, const uint8_t *output,
                                 size_t output_size);
 
-/* A slice of the exploration that the session has begun: tries all events of `number` states more, in about as long as `number` times the
- * processors and two takes. 0, and it is told, as by talusdish_explore, whose answer it is whatever the slices are; the session has
- * no exploration then. TALUSDISH_MORE where there is no answer yet: kind TALUSDISH_UNFINISHED and the states that were found are told,
- * and zeros; they may be fewer than before: where a Step reads Random or Count, whose values aren't looked at until one does, the states are
- * looked for anew. NO_MEMORY, and nothing is told; the session has no exploration then. NOTHING where it has none. With `number` 0 nothing
- * is tried. */
+/* A slice of the session's exploration: tries all events of `number` states more. 0 where the answer is known then: it is told, and the
+ * events of its list become the session's bytes, as by talusdish_explore, whatever the numbers of the slices were; the session has no
+ * exploration any more. TALUSDISH_MORE where it isn't known yet: the kind TALUSDISH_UNFINISHED, how many states were found so far, and
+ * zeros are told, and the session's bytes stay. The states may be fewer than before: those that only Random or Count of a processor tells
+ * apart count as one until a Step reads it, and then all are looked for anew, at most twice for each processor. NO_MEMORY: nothing is
+ * told, the bytes stay, and the session has no exploration any more. NOTHING, and nothing is told, where it has none: none was begun, its
+ * answer was told, or memory was refused to a slice.
+ *
+ * The work of a slice is bounded by `number`: a state has as many events as there are processors, and two, and each is tried once. But
+ * the slice that tells CLEAN or HUNG also looks once more at all states, for their ends. With `number` 0 nothing is tried. */
 uint8_t talusdish_explore_slice(talusdish_slot *slot, uint32_t number, talusdish_exploration *found);
 
 /* The value of the first symbol of an ELF `file` with this name of `name_size` bytes of UTF-8. 0, and it is told; else nothing is:
@@ -473,8 +480,8 @@ size_t talusdish_entries(talusdish_slot *slot);
  * then. */
 bool talusdish_entry(talusdish_slot *slot, size_t i, talusdish_entry_view *entry);
 
-/* Copies the session, its machine and its bytes, into the slot `to`, which is another one; what that held is freed then. 0; or
- * NO_MEMORY or NOTHING (`slot` is empty), and `to` is as it was. */
+/* Copies the session, its machine and its bytes, but no exploration that it has begun, into the slot `to`, which is another one; what
+ * that held is freed then. 0; or NO_MEMORY or NOTHING (`slot` is empty), and `to` is as it was. */
 uint8_t talusdish_copy(talusdish_slot *slot, talusdish_slot *to);
 
 #ifdef __cplusplus

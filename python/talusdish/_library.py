@@ -9,7 +9,7 @@ from typing import Any
 
 OK, NOTHING, NO_MEMORY, BAD = 0, 255, 254, 253
 RUN_OFF, RUN_STUCK, ALL_RIGHT, BAD_WATCH, DROPPED = 16, 17, 21, 22, 23
-NO_SYMBOL = 24
+NO_SYMBOL, MORE = 24, 25
 
 
 class Slot(c.Structure):
@@ -137,6 +137,10 @@ def _load() -> Any:
         "explore": (
             u8, slot, u32, c.c_char_p, size, point(WatchNumbers), size, point(u32), size, c.c_bool, c.c_char_p, size, point(Exploration),
         ),
+        "explore_begin": (
+            u8, slot, u32, c.c_char_p, size, point(WatchNumbers), size, point(u32), size, c.c_bool, c.c_char_p, size,
+        ),
+        "explore_slice": (u8, slot, u32, point(Exploration)),
         "seeds": (
             u8, slot, c.c_char_p, size, point(OrderNumbers), u64, u64, u32, c.c_char_p, size, point(WatchNumbers), size, point(u32), size,
             c.c_bool, c.c_char_p, size, point(Sought),

@@ -12,7 +12,7 @@ from typing import Any, Callable, Iterable, Iterator, Optional, Sequence, Tuple,
 
 from ._errors import GOALS, KINDS, ORDERS, AssemblyError, BadProcessor, boot_error, refusal
 from ._library import (
-    ALL_RIGHT, NO_MEMORY, NO_SYMBOL, RUN_OFF, RUN_STUCK, BoardView, ClassNumbers, ConflictView, EntryView, Exploration, Fault, Goal, JudgementNumbers,
+    ALL_RIGHT, MORE, NO_MEMORY, NO_SYMBOL, RUN_OFF, RUN_STUCK, BoardView, ClassNumbers, ConflictView, EntryView, Exploration, Fault, Goal, JudgementNumbers,
     ListNumbers, OrderNumbers, OutcomeNumbers,
     ProcessorView, RowWords, Size, Slot, Sought, SoughtSlice, Style, lib,
 )
@@ -152,6 +152,13 @@ def _judged(answer: int) -> None:
         raise GOALS[answer](GOALS[answer].__doc__)
     if answer:
         raise ValueError("the goal is too long")
+
+
+def _states_at_once(cpus: int) -> int:
+    """How many states a slice of an exploration tries, so that it takes some 50 ms at most: with two processors and little RAM a state
+    takes about 10 microseconds, so 4,096 of them. With twice the processors a state has twice the events, and each makes a state twice
+    as large."""
+    return 16384 // cpus**2
 
 
 def _slot() -> Slot:
@@ -396,27 +403,49 @@ class Machine:
 
     def explore(
         self, states: int = 1000000, keys: bytes = b"", watches: Iterable[Watch] = (), never: Iterable[int] = (),
-        output: Optional[bytes] = None,
+        output: Optional[bytes] = None, progress: Optional[Callable[[int], object]] = None,
     ) -> Explored:
         """Looks at every state that the machine can reach from its boot by any order of events with these keys, as long as there are
         no more than `states` of them: whether a watched page is used through an old row of a TLB, a Step fetches a word at one of
         the virtual addresses `never`, a strict machine would have rows that overlap, nothing is left to do, or, with `output`, the
-        machine is off and the console hasn't sent just that. The machine stays as it is. Gives Clean, Found, Hung or Open. Raises
-        BadWatch, ValueError for no states, or MemoryError."""
-        found = Exploration()
+        machine is off and the console hasn't sent just that. The machine stays as it is. Gives Clean, Found, Hung or Open.
+
+        The states are looked at in this thread, in slices, each a call of the library that takes a small part of a second; but the one
+        that gives Clean or Hung looks once more at all of them. Behind each slice without an answer, `progress` is called with how many
+        states were found so far; what it raises ends the exploration, and so does Ctrl-C. They are never fewer than before, but where a
+        Step reads Random or Count for the first time: states that only these tell apart counted as one, and are looked for anew. The
+        machine is in this call all the while, so that no other thread can use it, nor can `progress`.
+
+        Raises BadWatch, ValueError for no states, or MemoryError."""
         limit = within("states", states)
         if limit == 0:
             raise ValueError("states is 0; it is at least 1")
         with _alone(self._lock):
-            answer = lib.talusdish_explore(self._slot, limit, *goal_of(keys, watches, never, output), found)
-            numbers = b"" if answer else _bytes(self._slot)
-        _judged(answer)
+            found, numbers = self._explored(limit, goal_of(keys, watches, never, output), progress)
         events = events_of(numbers, len(self.processors), keys)
         if found.kind == 0:
             return Clean(found.states)
         if found.kind == 1:
             return Found(verdict_of(found.verdict), events, found.states)
         return Hung(events, found.states) if found.kind == 2 else Open(limit, found.events)
+
+    def _explored(
+        self, limit: int, goal: Tuple[Any, ...], progress: Optional[Callable[[int], object]]
+    ) -> Tuple[Exploration, bytes]:
+        """An exploration, and the numbers of the events of its list. It is made in a copy of the session, with which all that it found is
+        freed, where it is ended early, too."""
+        found, slot, number = Exploration(), Slot(), _states_at_once(len(self.processors))
+        try:
+            if lib.talusdish_copy(self._slot, slot):
+                raise MemoryError("talusdish")
+            _judged(lib.talusdish_explore_begin(slot, limit, *goal))
+            while (answer := lib.talusdish_explore_slice(slot, number, found)) == MORE:
+                if progress:
+                    progress(found.states)
+            _judged(answer)
+            return found, _bytes(slot)
+        finally:
+            lib.talusdish_close(slot)
 
     def audit(self, watches: Iterable[Watch]) -> Optional[Judgement]:
         """Audits the machine's events since its boot: the first stale use of one of the watches' pages, or None. Raises BadWatch, Dropped
@@ -551,10 +580,12 @@ class Machine:
 def explore(
     image: Image, ram: int = 1048576, cpus: int = 1, states: int = 1000000, keys: bytes = b"", watches: Iterable[Watch] = (),
     never: Iterable[int] = (), output: Optional[bytes] = None, line: bool = False, strict: bool = False,
+    progress: Optional[Callable[[int], object]] = None,
 ) -> Explored:
-    """Looks at every state that an image can reach, as `Machine.explore` does: `explore(image, cpus=2)` gives `Clean(527)`, say.
-    Raises also what `Machine` does."""
-    return Machine(image, ram, cpus, 1, line, strict).explore(states, keys, watches, never, output)
+    """Looks at every state that an image can reach, as `Machine.explore` does: `explore(image, cpus=2)` gives `Clean(527)`, say. In
+    between `progress` is called with how many states were found so far; what it raises ends the exploration, and so does Ctrl-C. Raises
+    also what `Machine` does."""
+    return Machine(image, ram, cpus, 1, line, strict).explore(states, keys, watches, never, output, progress)
 
 
 def _search_delays(

@@ -1,19 +1,53 @@
 """Tests of explorations, of searches and of verdicts, over the library that c/build made."""
 
+import os
+import signal
+import threading
 import unittest
 from pathlib import Path
+from unittest import mock
 
 import talusdish
 from talusdish import (
     AllRight, Clean, Delayed, Delays, Event, Found, Hung, Judgement, Machine, Open, Priorities, Random, Stop, Turns, Verdict, Watch, Wrong, WrongRun, assemble,
     explore, search,
 )
+from talusdish._judging import events_of, goal_of, verdict_of
+from talusdish._library import Exploration, lib
+from talusdish._machine import _bytes
 
 EXAMPLES = Path(__file__).resolve().parents[2] / "examples"
 LABS = EXAMPLES / "labs"
 SPIN = "here: beq $0, $0, here\n nop\n"
 SUM = "main: addiu $8, $0, 5\n addiu $9, $8, 7\n lui $10, 0x8000\n sw $9, 0x3010($10)\nlast: wait\n beq $0, $0, last\n nop\n"
 POLL = " lui $8, 0xbfe0\nread: lw $9, 8($8)\n andi $9, $9, 2\n beq $9, $0, read\n nop\ngot: nop\n"
+# Reads Random at its third Step, and spins.
+READER = " nop\n nop\n mfc0 $8, $1\nhere: beq $0, $0, here\n nop\n"
+# Two processors count down beside each other, and wait.
+COUNTERS = (
+    " lui $8, 0xbfff\n ori $8, $8, 0x8000\n lui $9, 0x8000\n ori $9, $9, 0x021c\n sw $9, 1792($8)\n ori $9, $0, 3\n sw $9, -492($8)\n"
+    "both: ori $10, $0, {}\nturn: addiu $10, $10, -1\n bne $10, $0, turn\n nop\nrest: wait\n beq $0, $0, rest\n nop\n"
+)
+
+
+def counters(times):
+    return assemble(COUNTERS.format(times))
+
+
+def in_one_call(machine, states, keys=b"", watches=(), never=(), output=None):
+    """What one call of the library finds."""
+    found = Exploration()
+    answer = lib.talusdish_explore(machine._slot, states, *goal_of(keys, watches, never, output), found)
+    assert answer == 0, answer
+    events = events_of(_bytes(machine._slot), len(machine.processors), keys)
+    if found.kind == 1:
+        return Found(verdict_of(found.verdict), events, found.states)
+    return (Clean(found.states), None, Hung(events, found.states), Open(states, found.events))[found.kind]
+
+
+def by(number):
+    """Slices of so many states."""
+    return mock.patch.object(talusdish._machine, "_states_at_once", lambda cpus: number)
 
 
 def lab(name):
@@ -56,6 +90,60 @@ class Exploring(unittest.TestCase):
         found = explore(assemble(POLL), ram=4096, keys=b"k", never=[0x80000214])
         step = (Event.STEP, 0)
         self.assertEqual(found.events, (step, (Event.KEY, ord("k")), step, step, step, step, step))
+
+    def test_slices(self):
+        hasty = assemble((EXAMPLES / "shootdown.s").read_text().replace("beq     $15, $0, acked", "nop"))
+        for name, image, size, goal, kind in (
+            ("lost-update", lab("lost-update"), {"cpus": 2}, {}, Found), ("two-locks", lab("two-locks"), {"cpus": 2}, {}, Hung),
+            ("lost-update-fixed", lab("lost-update-fixed"), {"cpus": 2}, {}, Clean), ("hasty", hasty, {"cpus": 2}, {"watches": [Watch(5, 0x400, 0x3000, 0x3004)]}, Found),
+            ("key", assemble(POLL), {}, {"keys": b"k", "never": [4, 0x80000214]}, Found), ("hello", example("hello"), {}, {"output": b"ho"}, Found),
+            ("open", lab("two-locks"), {"cpus": 2}, {"states": 99}, Open), ("random", assemble(READER), {}, {}, Hung),
+        ):
+            machine = Machine(image, ram=65536, **size)
+            goal = {"states": 9999, **goal}
+            whole = in_one_call(machine, **goal)
+            self.assertIsInstance(whole, kind)
+            for number in (1, 7, 1000, 2**32 - 1):
+                with self.subTest(name, number=number), by(number):
+                    self.assertEqual(machine.explore(**goal), whole)
+            self.assertEqual(machine.explore(**goal), whole)
+
+    def test_progress(self):
+        # What is expected is what `s161 explore` prints.
+        told = []
+        self.assertEqual(explore(counters(40), ram=28672, cpus=2, output=b"", progress=told.append), Clean(15136))
+        self.assertTrue(told and told[-1] <= 15136)
+        self.assertEqual(told, sorted(told))
+        # a state after the other, in a row; and anew, since the third Step reads Random
+        for image, states in ((SUM, [2, 3, 4, 5, 6]), (READER, [2, 3, 1, *range(2, 60)])):
+            told = []
+            with by(1):
+                machine = Machine(assemble(image), ram=4096 * 4)
+                found = machine.explore(output=b"", progress=told.append)
+            self.assertEqual((told, found.states), (states, states[-1]))
+
+    def test_ended_early(self):
+        machine = Machine(counters(40), ram=28672, cpus=2)
+        told = []
+        with self.assertRaises(KeyError):
+            machine.explore(output=b"", progress=lambda states: {}[told.append(states)])
+        self.assertEqual(len(told), 1)
+        # another thread can't use it meanwhile, nor can `progress`
+        with self.assertRaises(RuntimeError):
+            machine.explore(output=b"", progress=lambda states: machine.step())
+        machine.step()
+        self.assertEqual((machine.made, machine.explore(output=b"")), (1, Clean(15136)))
+
+    def test_ctrl_c(self):
+        before = signal.signal(signal.SIGINT, signal.default_int_handler)
+        timer = threading.Timer(0.1, os.kill, (os.getpid(), signal.SIGINT))
+        try:
+            timer.start()
+            with self.assertRaises(KeyboardInterrupt):
+                explore(counters(9999), ram=28672, cpus=2)  # a million states, which take seconds
+        finally:
+            timer.join()
+            signal.signal(signal.SIGINT, before)
 
     def test_refusals(self):
         machine = Machine(assemble(SUM), ram=65536)

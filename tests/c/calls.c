@@ -405,6 +405,202 @@ static void explorations(void) {
     talusdish_close(&slot);
 }
 
+/* The buffers are freed behind the call. */
+static uint8_t explore_begin(talusdish_slot *slot, uint32_t limit, const goal_of_run *goal) {
+    const char *output = goal->output ? goal->output : "";
+    uint8_t *keys = exact(goal->keys, strlen(goal->keys)), *sent = exact(output, strlen(output));
+    uint8_t *watches = exact(goal->watch, goal->watches * sizeof *goal->watch), *never = exact(goal->never, goal->nevers * sizeof *goal->never);
+    uint8_t answer = talusdish_explore_begin(slot, limit, keys, strlen(goal->keys), (talusdish_watch *)(void *)watches, goal->watches,
+                                             (uint32_t *)(void *)never, goal->nevers, goal->output != NULL, sent, strlen(output));
+    free(keys), free(sent), free(watches), free(never);
+    return answer;
+}
+
+static bool is_exploration(const talusdish_exploration *found, uint32_t kind, uint32_t states, uint64_t events) {
+    return found->kind == kind && found->states == states && found->events == events;
+}
+
+/* A slice of so many states has no answer yet, and so many were found. */
+static bool has_more(talusdish_slot *slot, uint32_t number, uint32_t states) {
+    const talusdish_verdict none = {0, 0, 0, 0, 0};
+    talusdish_exploration found = {9, 9, 9, {9, 9, 9, 9, 9}};
+    return talusdish_explore_slice(slot, number, &found) == TALUSDISH_MORE && is_exploration(&found, TALUSDISH_UNFINISHED, states, 0) &&
+           memcmp(&found.verdict, &none, sizeof none) == 0;
+}
+
+/* There is no exploration: nothing is told. */
+static bool has_none(talusdish_slot *slot) {
+    talusdish_exploration found = {9, 9, 9, {9, 9, 9, 9, 9}}, same = found;
+    return talusdish_explore_slice(slot, 1, &found) == TALUSDISH_NOTHING && memcmp(&found, &same, sizeof found) == 0;
+}
+
+/* Slices of so many states, one behind the other, find what one call does, and nothing is there to go on with behind it. */
+static void explored_as(talusdish_slot *slot, uint32_t limit, uint32_t number, const goal_of_run *goal) {
+    talusdish_exploration whole = {9, 9, 9, {9, 9, 9, 9, 9}}, found = whole;
+    size_t long_one, long_too;
+    int slices = 0;
+    uint8_t answer;
+    CHECK(explore(slot, limit, goal, &whole) == 0);
+    uint8_t *wanted = bytes_of(slot, &long_one);
+    CHECK(explore_begin(slot, limit, goal) == 0);
+    while ((answer = talusdish_explore_slice(slot, number, &found)) == TALUSDISH_MORE && found.states <= limit && slices < 9999) slices++;
+    CHECK(answer == 0 && is_exploration(&found, whole.kind, whole.states, whole.events) && (number > 1 || slices > 0));
+    CHECK(memcmp(&found.verdict, &whole.verdict, sizeof whole.verdict) == 0);
+    uint8_t *had = bytes_of(slot, &long_too);
+    CHECK(long_one == long_too && memcmp(wanted, had, long_one) == 0 && has_none(slot));
+    free(wanted), free(had);
+}
+
+/* What isn't begun, and slices of what isn't there. */
+static void unexplored(void) {
+    talusdish_slot slot = {0};
+    goal_of_run goal = {"", "", {{64, 0, 0x1000, 0x1004}}, 0, {0, 0}, 0};
+    CHECK(explore_begin(&slot, 9, &goal) == TALUSDISH_NOTHING && has_none(&slot) && !slot.full && !slot.at);
+    CHECK(talusdish_open(&slot));
+    CHECK(explore_begin(&slot, 9, &goal) == TALUSDISH_NOTHING && has_none(&slot));
+    CHECK(boot(&slot, sum, small) == 0);
+    CHECK(has_none(&slot));
+    CHECK(explore_begin(&slot, 0, &goal) == TALUSDISH_BAD && has_none(&slot));
+    goal.watches = 1;
+    CHECK(explore_begin(&slot, 9, &goal) == TALUSDISH_BAD_WATCH && has_none(&slot));
+    CHECK(explore_begin(&slot, 0, &goal) == TALUSDISH_BAD && has_none(&slot)); /* the limit comes first */
+    goal.watch[0] = (talusdish_watch){63, 0xfffff, 0x1000, 65536};
+    CHECK(explore_begin(&slot, 9, &goal) == TALUSDISH_BAD_WATCH && has_none(&slot));
+    goal.watch[0].done = 65532;
+    CHECK(explore_begin(&slot, 9, &goal) == 0 && has_more(&slot, 0, 1));
+    talusdish_close(&slot);
+    CHECK(has_none(&slot));
+}
+
+/* One after the other of six states in a row: four instructions, wait, and what is behind it. */
+static void slices_in_a_row(void) {
+    talusdish_slot slot = {0}, copy = {0};
+    talusdish_exploration found = {9, 9, 9, {9, 9, 9, 9, 9}};
+    talusdish_outcome outcome;
+    goal_of_run goal = {"", "", {{63, 0xfffff, 0x1000, 65532}}, 1, {4, 0x80000000}, 2};
+    CHECK(talusdish_open(&slot));
+    CHECK(boot(&slot, sum, small) == 0);
+    size_t file = talusdish_length(&slot);
+    CHECK(explore_begin(&slot, 6, &goal) == 0 && talusdish_length(&slot) == file && talusdish_made(&slot) == 0);
+    CHECK(has_more(&slot, 0, 1) && has_more(&slot, 0, 1));
+    for (uint32_t states = 2; states < 7; states++) CHECK(has_more(&slot, 1, states) && has_more(&slot, 0, states));
+    CHECK(talusdish_length(&slot) == file);
+    CHECK(talusdish_explore_slice(&slot, 1, &found) == 0 && is_exploration(&found, TALUSDISH_CLEAN, 6, 0));
+    CHECK(found.verdict.kind == TALUSDISH_VERDICT_NONE && has_events(&slot, "") && has_none(&slot));
+    /* all at once, and all that is left */
+    CHECK(explore_begin(&slot, 6, &goal) == 0);
+    CHECK(talusdish_explore_slice(&slot, 6, &found) == 0 && is_exploration(&found, TALUSDISH_CLEAN, 6, 0) && has_none(&slot));
+    CHECK(explore_begin(&slot, UINT32_MAX, &goal) == 0 && has_more(&slot, 5, 6));
+    CHECK(talusdish_explore_slice(&slot, UINT32_MAX, &found) == 0 && is_exploration(&found, TALUSDISH_CLEAN, 6, 0) && has_none(&slot));
+    /* another one in its place, with another limit and another goal, and one that isn't begun */
+    CHECK(explore_begin(&slot, 6, &goal) == 0 && has_more(&slot, 2, 3));
+    goal.output = NULL;
+    CHECK(explore_begin(&slot, 3, &goal) == 0);
+    CHECK(explore_begin(&slot, 0, &goal) == TALUSDISH_BAD && has_more(&slot, 1, 2) && has_more(&slot, 1, 3));
+    CHECK(talusdish_explore_slice(&slot, 1, &found) == 0 && is_exploration(&found, TALUSDISH_OPEN, 0, 2) && has_events(&slot, "") && has_none(&slot));
+    /* the session's machine goes on and is another one, its bytes are others, and another exploration is made, meanwhile */
+    CHECK(explore_begin(&slot, 99, &goal) == 0 && has_more(&slot, 1, 2));
+    CHECK(talusdish_step(&slot, 0, &outcome) == 0 && talusdish_made(&slot) == 1 && has_more(&slot, 1, 3) && talusdish_made(&slot) == 1);
+    CHECK(boot(&slot, hi, small) == 0);
+    CHECK(talusdish_step(&slot, 0, &outcome) == 0 && talusdish_key(&slot, 'k', &outcome) == 0 && talusdish_log(&slot) == 0);
+    CHECK(has_more(&slot, 1, 4) && has_bytes(&slot, "m161 log 2 word\ns 0 ran\nk 6b taken\n") && talusdish_made(&slot) == 2);
+    /* a copy has none, nor has a slot any more to which one without is copied */
+    CHECK(talusdish_copy(&slot, &copy) == 0 && has_none(&copy) && has_more(&slot, 0, 4));
+    CHECK(explore_begin(&copy, 99, &goal) == 0 && has_more(&copy, 0, 1) && talusdish_copy(&slot, &copy) == 0 && has_none(&copy));
+    goal.output = "x";
+    CHECK(explore(&slot, 99, &goal, &found) == 0 && found.kind == TALUSDISH_FOUND && found.events == 10 && has_events(&slot, "0001000000"));
+    CHECK(has_more(&slot, 1, 5) && has_events(&slot, "0001000000"));
+    CHECK(talusdish_explore_slice(&slot, 1, &found) == 0 && is_exploration(&found, TALUSDISH_FOUND, 5, 5));
+    CHECK(found.verdict.kind == TALUSDISH_VERDICT_STUCK && has_events(&slot, "00000") && talusdish_made(&slot) == 2 && has_none(&slot));
+    /* one that was begun is freed with its session, or where another one is opened in its place */
+    CHECK(explore_begin(&slot, 99, &goal) == 0 && has_more(&slot, 3, 4) && talusdish_open(&slot) && has_none(&slot));
+    CHECK(explore_begin(&copy, 99, &goal) == 0 && has_more(&copy, 3, 4));
+    talusdish_close(&copy);
+    CHECK(has_none(&copy));
+    talusdish_close(&slot);
+}
+
+/* Uses a page, whose entry and mark it has stored to, by the old row of the TLB: the ninth Step. */
+static const char *stale =
+    " lui $8, 0x40\n mtc0 $8, $10\n ori $9, $0, 0x700\n mtc0 $9, $2\n tlbwi\n"
+    " lui $10, 0x8000\n sw $0, 0x1000($10)\n sw $0, 0x1004($10)\n lw $11, 0($8)\n wait\n";
+/* Reads Random at the third Step, and spins. */
+static const char *random_reader = " nop\n nop\n mfc0 $8, $1\nhere: beq $0, $0, here\n nop\n";
+/* Reads Count at the second Step and Random at the third, and switches off. */
+static const char *time_reader = " nop\n mfc0 $8, $9\n mfc0 $9, $1\n lui $8, 0xbfff\n sw $0, 32264($8)\n nop\n";
+/* Two processors read both, and wait. */
+static const char *time_readers =
+    " lui $8, 0xbfff\n ori $8, $8, 0x8000\n lui $9, 0x8000\n ori $9, $9, 0x021c\n sw $9, 1792($8)\n ori $9, $0, 3\n sw $9, -492($8)\n"
+    "both: mfc0 $10, $9\n mfc0 $11, $1\nrest: wait\n beq $0, $0, rest\n nop\n";
+
+/* Of two processors, by slices of so many states. */
+static void slices_of(uint32_t number) {
+    talusdish_slot slot = {0};
+    talusdish_size two = {8192, 2, 16, false, false};
+    goal_of_run goal = {"", NULL, {{0, 0x400, 0x1000, 0x1004}}, 0, {0x80000260, 4}, 0};
+    goal_of_run keyed = {"k", "", {{63, 1, 0x1000, 0x1004}}, 1, {0x80000214, 4}, 2};
+    CHECK(talusdish_open(&slot));
+    /* an increment is lost, which leaves nothing to do; so it may, where no byte is asked for; an address is met; more states than the limit */
+    CHECK(boot(&slot, race, two) == 0);
+    explored_as(&slot, 9999, number, &goal);
+    goal.output = "";
+    explored_as(&slot, 9999, number, &goal);
+    goal.nevers = 2;
+    explored_as(&slot, 9999, number, &goal);
+    goal.output = NULL, goal.nevers = 0;
+    explored_as(&slot, 50, number, &goal);
+    /* a key; a byte that isn't to be sent; a stale use; no end; states that are looked for anew */
+    CHECK(boot(&slot, poll, two) == 0);
+    explored_as(&slot, 99, number, &keyed);
+    CHECK(boot(&slot, hi, two) == 0);
+    explored_as(&slot, 99, number, &keyed);
+    CHECK(boot(&slot, stale, two) == 0);
+    goal.watches = 1;
+    explored_as(&slot, 99, number, &goal);
+    goal.watches = 0;
+    CHECK(boot(&slot, "here: beq $0, $0, here\n nop\n", two) == 0);
+    explored_as(&slot, 99, number, &goal);
+    CHECK(boot(&slot, random_reader, two) == 0);
+    explored_as(&slot, 99, number, &goal);
+    CHECK(boot(&slot, time_readers, two) == 0);
+    explored_as(&slot, 99, number, &goal);
+    talusdish_close(&slot);
+}
+
+static void slices(void) {
+    talusdish_slot slot = {0};
+    talusdish_exploration found = {9, 9, 9, {9, 9, 9, 9, 9}};
+    talusdish_size one = {8192, 1, 16, false, false};
+    goal_of_run goal = {"", NULL, {{0, 0x400, 0x1000, 0x1004}}, 1, {0, 0}, 0};
+    unexplored();
+    slices_in_a_row();
+    slices_of(1);
+    slices_of(7);
+    slices_of(1000);
+    slices_of(UINT32_MAX);
+    /* a watch, of which a copy was taken */
+    CHECK(talusdish_open(&slot));
+    CHECK(boot(&slot, stale, one) == 0);
+    CHECK(explore_begin(&slot, 99, &goal) == 0 && has_more(&slot, 8, 9));
+    CHECK(talusdish_explore_slice(&slot, 1, &found) == 0 && is_exploration(&found, TALUSDISH_FOUND, 9, 9) && has_events(&slot, "000000000"));
+    CHECK(found.verdict.kind == TALUSDISH_VERDICT_STALE && found.verdict.processor == 0 && found.verdict.address == 0x400000);
+    CHECK(found.verdict.row == 0 && has_none(&slot));
+    /* the third Step reads Random, and the states are looked for anew: the first three, and behind them, since Random goes round 56 values, 56 of a
+     * circle of two instructions */
+    CHECK(boot(&slot, random_reader, one) == 0);
+    CHECK(explore_begin(&slot, 99, &goal) == 0 && has_more(&slot, 1, 2) && has_more(&slot, 1, 3) && has_more(&slot, 1, 1));
+    for (uint32_t states = 2; states < 60; states++) CHECK(has_more(&slot, 1, states));
+    CHECK(talusdish_explore_slice(&slot, 1, &found) == 0 && is_exploration(&found, TALUSDISH_HUNG, 59, 0) && has_events(&slot, ""));
+    CHECK(has_none(&slot));
+    /* twice anew: for Count and for Random. Then six states in a row, of which the last is off */
+    CHECK(boot(&slot, time_reader, one) == 0);
+    CHECK(explore_begin(&slot, 99, &goal) == 0 && has_more(&slot, 1, 2) && has_more(&slot, 1, 1));
+    CHECK(has_more(&slot, 1, 2) && has_more(&slot, 1, 3) && has_more(&slot, 1, 1));
+    for (uint32_t states = 2; states < 7; states++) CHECK(has_more(&slot, 1, states));
+    CHECK(talusdish_explore_slice(&slot, 1, &found) == 0 && is_exploration(&found, TALUSDISH_CLEAN, 6, 0) && has_none(&slot));
+    talusdish_close(&slot);
+}
+
 static uint8_t symbol(const uint8_t *file, size_t size, const char *name, uint32_t *value) {
     uint8_t *own = exact(name, strlen(name)), *bytes = exact(file, size);
     uint8_t answer = talusdish_symbol(bytes, size, own, strlen(name), value);
@@ -1077,6 +1273,7 @@ int main(void) {
     searches();
     symbols();
     explorations();
+    slices();
     judgements();
     unsought();
     unlisted();

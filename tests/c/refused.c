@@ -73,6 +73,42 @@ static bool all_same = true;
         view(&slot);                                            \
     } while (0)
 
+static uint8_t explore_begin(talusdish_slot *slot, uint32_t limit) {
+    talusdish_watch watch = {1, 0x400, 0x1000, 0x1004};
+    uint32_t never = 0x80000300;
+    return talusdish_explore_begin(slot, limit, (const uint8_t *)"", 0, &watch, 1, &never, 1, true, (const uint8_t *)"x", 1);
+}
+
+/* An exploration by slices, in the place of another one, which is open behind two events. Where memory is refused to its begin, the other
+ * one is still there; where it is refused to a slice, nothing is told or changed, and there is none, so that it is begun anew. */
+static void explore_in_slices(talusdish_slot *slot) {
+    talusdish_exploration found = {9, 9, 9, {9, 9, 9, 9, 9}}, same = found;
+    uint64_t before = seen(slot);
+    uint8_t answer = explore_begin(slot, 99);
+    if (answer == 254) {
+        all_same = all_same && before == seen(slot);
+        all_same = all_same && talusdish_explore_slice(slot, 99, &found) == 0 && found.kind == TALUSDISH_OPEN && found.events == 2;
+        answer = explore_begin(slot, 99);
+    }
+    all_same = all_same && answer == 0;
+    do {
+        before = seen(slot), same = found;
+        answer = talusdish_explore_slice(slot, 2, &found);
+        if (answer == 254) {
+            all_same = all_same && talusdish_explore_slice(slot, 2, &found) == 255 && memcmp(&found, &same, sizeof found) == 0;
+            all_same = all_same && before == seen(slot) && explore_begin(slot, 99) == 0;
+        } else if (answer == TALUSDISH_MORE) {
+            all_same = all_same && before == seen(slot) && found.kind == TALUSDISH_UNFINISHED;
+        }
+    } while (all_same && (answer == 254 || answer == TALUSDISH_MORE));
+    note(answer);
+    note(found.kind);
+    note(found.states);
+    note(found.events);
+    note(found.verdict.kind);
+    view(slot);
+}
+
 static uint64_t whole(long at) {
     talusdish_slot slot = {0};
     talusdish_fault fault;
@@ -116,6 +152,8 @@ static uint64_t whole(long at) {
     note(found.states);
     note(found.events);
     note(found.verdict.kind);
+    AGAIN(254, explore_begin(&slot, 3));
+    explore_in_slices(&slot);
     uint32_t value = 0, distance = 0;
     AGAIN(254, talusdish_symbol(file, size, (const uint8_t *)"sent", 4, &value));
     note(value);

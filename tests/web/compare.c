@@ -144,6 +144,21 @@ static void explorations(bool text) {
     }
 }
 
+/* An exploration in slices of seven states: how many there are behind each, and what it finds. */
+static void slices(bool text) {
+    talusdish_slot slot = {0};
+    talusdish_size conf = size_of(text, 2, false);
+    talusdish_exploration found = {0, 0, 0, {0, 0, 0, 0, 0}};
+    talusdish_watch none = {0, 0, 0, 0};
+    uint32_t never = 0, answer;
+    begin(), talusdish_open(&slot), talusdish_boot(&slot, image, image_size, &conf);
+    byte(talusdish_explore_begin(&slot, 300, (const uint8_t *)"ab", 2, &none, 0, &never, 0, false, (const uint8_t *)"", 0));
+    while ((answer = talusdish_explore_slice(&slot, 7, &found)) == TALUSDISH_MORE) word(found.kind), word(found.states);
+    see_bytes(&slot), byte(talusdish_explore_slice(&slot, 7, &found));
+    printf("slices answer %u kind %u states %u events %llu verdict %u", answer, found.kind, found.states, (unsigned long long)found.events, found.verdict.kind), say("");
+    talusdish_close(&slot);
+}
+
 /* The calls of a session in which one request of memory is refused; how many requests they make. */
 static long refuse(long at) {
     talusdish_slot slot = {0}, copy = {0};
@@ -204,7 +219,7 @@ int main(int count, char **names) {
         size = fread(file, 1, sizeof file, from), fclose(from);
         printf("%s %zu\n", names[k], size);
         if (text) assemble(file, size, "file"); else memcpy(image, file, image_size = size);
-        runs(text), events(text), searches(text), explorations(text);
+        runs(text), events(text), searches(text), explorations(text), slices(text);
         if (k == 1) for (long at = 1, total = 0; at == 1 || total >= at - 1; at++) total = refuse(at);
     }
     faults();

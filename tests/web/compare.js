@@ -90,6 +90,18 @@ function explorations(text) {
     }
 }
 
+function slices(text) {
+    begin();
+    const it = new Session(engine), slice = () => it.call('explore_slice', 7, it.place) & 255, told = at => engine.told().getUint32(at, true);
+    it.boot(image, sizeOf(text, 2, false));
+    byte(engine.lend(new TextEncoder().encode('ab'), (at, n) => it.call('explore_begin', 300, at, n, it.place, 0n, it.place, 0n, 0, it.place, 0n) & 255));
+    let answer;
+    while ((answer = slice()) === 25) { word(told(0)); word(told(4)); }
+    seeBytes(it); byte(slice());
+    say(`slices answer ${answer} kind ${told(0)} states ${told(4)} events ${engine.told().getBigUint64(8, true)} verdict ${told(16)}`);
+    it.close();
+}
+
 // A slot that may stay empty: the session of `new Session` is closed, and opened again by hand.
 function slotOf() { const it = new Session(engine); it.call('close'); return it; }
 function refuse(at) {
@@ -140,7 +152,7 @@ async function main([wasm, ...names]) {
         file = new Uint8Array(fs.readFileSync(name));
         console.log(`${name} ${file.length}`);
         if (text) assemble(file, 'file'); else image = file;
-        runs(text); events(text); searches(text); explorations(text);
+        runs(text); events(text); searches(text); explorations(text); slices(text);
         if (k === 0) for (let at = 1, requests = 0; at === 1 || requests >= at - 1; at++) requests = refuse(at);
     }
     faults();
