@@ -16,6 +16,7 @@ from browser import Browser
 TOP = pathlib.Path(__file__).resolve().parent.parent.parent
 LABS = sorted(it.stem for it in (TOP / "examples/labs").glob("*.s") if not it.stem.endswith("-fixed"))
 UNFAIR = {"barrier-reuse"}  # found by few seeds alone
+WRONG = {"stuck": "stuck", "hung": "no order comes to an end any more", "output": "the console has sent something else", "end": "not off"}
 
 TWO = """0 0 80000200 <main> 34090005 ori $9, $0, 0x0005  r9=00000005
 1 0 80000204 <main+4> 3c088000 lui $8, 0x8000  r8=80000000
@@ -65,6 +66,11 @@ add:    ll      $12, 4096($11)
 """
 
 
+def lengths(schedule):
+    """How many events a schedule's lines have."""
+    return sum(int(it[2]) if len(it) > 2 else 1 for it in map(str.split, schedule))
+
+
 class Page:
     """The uses of the page, each with what its elements show then."""
 
@@ -100,6 +106,14 @@ class Page:
         for key in keys:
             self.b.key(key)
             self.idle()
+
+    def s161(self, source, command, *words):
+        """The lines that the release's program prints of a kernel."""
+        with tempfile.TemporaryDirectory() as folder:
+            image = f"{folder}/it.elf"
+            with open(image, "wb") as out:
+                subprocess.run([TOP / "release/s161", "as"], input=source.encode(), stdout=out, check=True)
+            return subprocess.run([TOP / "release/s161", command, image, *words], capture_output=True, text=True).stdout.splitlines()
 
     # ---- The uses
 
@@ -336,6 +350,20 @@ class Page:
         self.b.wait("!hunting")
         assert "needs an address" in self.text("said"), self.text("said")
         self.b.type("#ifword", ""), self.b.type("#ifvalue", "")
+        # a kernel that hangs is right if it need not end, but not said to end; its output is looked at
+        self.choose("two-locks")
+        self.b.click("#ifend")
+        source, said = self.b.js("$('source').value"), self.find()
+        _, states, kind, *_ = self.s161(source, "explore", "--cpus", "2")
+        assert kind == "# hung" and said == f"Right in every order: {int(states[9:]):,} states. In whatever order and for however long, nothing goes wrong.", said
+        self.b.click("#ifoutput")
+        self.b.type("#output", "ho")
+        with tempfile.NamedTemporaryFile("w") as sent:
+            sent.write("ho"), sent.flush()
+            _, states, kind, *events = self.s161(source, "explore", "--cpus", "2", "--output", sent.name)
+        said = self.find()
+        assert kind == "# output" and said.startswith(f"After {lengths(events)} events: {WRONG['output']}. ") and f" {int(states[9:]):,} states come before it" in said, said
+        self.b.click("#ifend"), self.b.click("#ifoutput")
         self.choose("hello")
         self.b.choose("#cpus", 1)
         self.b.click("#ifoutput")
@@ -372,25 +400,14 @@ class Page:
             self.b.type("#number", str(number)), self.b.type("#limit", "300")
             self.run()
             assert " ".join(words) in self.b.js("commandOf(settings())")
-            lines = self.s161(words)
-            assert lines is None or self.b.js("run.events.map(e => e.line).join('\\n')") == lines, order
+            lines = self.s161(self.b.js("$('source').value"), "trace", "--cpus", "2", "--events", "300", *words)
+            assert self.b.js("run.events.map(e => e.line)") == lines[:-1] and lines[-1].startswith("stop: "), order
         self.choose("two-locks")
         self.b.type("#limit", "300")
         self.run()
         self.b.click("#more")
         self.idle()
         assert self.data("events") == "2300" and self.b.js("$('limit').value") == "2300" and self.b.js("sel") == 300
-
-    def s161(self, words):
-        program = TOP / "release/s161"
-        if not program.is_file():
-            return None
-        with tempfile.TemporaryDirectory() as folder:
-            image = f"{folder}/it.elf"
-            with open(image, "wb") as out:
-                subprocess.run([program, "as"], stdin=open(TOP / "examples/labs/two-locks.s", "rb"), stdout=out, check=True)
-            said = subprocess.run([program, "trace", image, "--cpus", "2", "--events", "300", *words], capture_output=True, text=True).stdout
-        return "\n".join(line for line in said.splitlines() if not line.startswith("stop: "))
 
     def link_and_file(self):
         """The address has the run, and so has a saved file."""

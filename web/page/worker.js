@@ -225,6 +225,7 @@ const DELAYS_MS = 4000, MOST_DELAYS = 2, DELAYED_TURNS = 50, DELAYED_EVENTS = 50
 class Hunt {
     constructor({ file, size, plan, keys, limit, rules, from, most }, tell) {
         Object.assign(this, { file, plan, keys, limit, rules, from, most, tell, id: ++hunting, bad: '', seed: from, processors: size.processors });
+        this.output = rules.output === null ? null : Uint8Array.from(rules.output, c => c.charCodeAt(0));
         this.base = booted(file, { ...size, log: limit }); this.tried = new Session(engine);
     }
     get isOn() { return this.id === hunting; }
@@ -237,7 +238,7 @@ class Hunt {
             if (found.answer === NO_MEMORY) throw new OutOfMemory();
             if (found.answer !== OK) throw new Refused(REFUSALS[found.answer]);
             const end = performance.now();
-            if (found.kind !== OPEN || !this.isOn || limit >= MOST_STATES || end + 3 * (end - start) > until) return { ...found, limit };
+            if (found.kind !== OPEN || !this.isOn || limit >= MOST_STATES || end + 3 * (end - start) > until) return { ...found, limit, asked: output !== null };
             this.tell({ states: limit });
             await breathe();
         }
@@ -246,22 +247,23 @@ class Hunt {
     // run that is stuck excuses its output there, so output is asked for once nothing is stuck. null where a run may be stuck.
     async explore() {
         if (!this.rules.stuck) return null;
+        const isRight = ({ kind }) => kind === CLEAN || kind === HUNG && !this.rules.end;
         let found = await this.exploreFor(null);
-        if (found.kind === CLEAN && this.rules.output !== null) found = await this.exploreFor(Uint8Array.from(this.rules.output, c => c.charCodeAt(0)));
-        if (found.kind === HUNG && !this.rules.end) return { ...found, kind: CLEAN };
-        if (found.kind === FOUND || found.kind === HUNG) found.blocks = blocksNamed(this.base.read(), this.processors, this.keys);
+        if (isRight(found) && this.output) found = await this.exploreFor(this.output);
+        if (isRight(found)) return { ...found, kind: CLEAN, ends: found.kind === CLEAN };
+        if (found.kind !== OPEN) found.blocks = blocksNamed(this.base.read(), this.processors, this.keys);
         return found;
     }
     // Every run by turns with few delays at the first choices: of twice as many choices each time, as long as the next try fits the time.
     // null where a run may be stuck, or has to send something and need not end: no such search excuses that.
     async delays() {
-        const { stuck, end, output } = this.rules;
-        if (!stuck || (!end && output !== null)) return null;
+        const { stuck, end } = this.rules;
+        if (!stuck || !end && this.output) return null;
         const plan = { kind: TURNS, turns: DELAYED_TURNS, transfer: this.plan.transfer, gap: this.plan.gap };
-        const sent = output === null ? null : Uint8Array.from(output, c => c.charCodeAt(0)), n = Math.min(this.limit, DELAYED_EVENTS);
+        const n = Math.min(this.limit, DELAYED_EVENTS);
         for (let within = 16, until = performance.now() + DELAYS_MS; ; within *= 2) {
             const start = performance.now();
-            const found = this.base.delays(this.file, plan, { most: MOST_DELAYS, from: 0, within }, n, end ? FEW_STATES : 0, this.keys, sent);
+            const found = this.base.delays(this.file, plan, { most: MOST_DELAYS, from: 0, within }, n, end ? FEW_STATES : 0, this.keys, this.output);
             if (found.answer === NO_MEMORY) throw new OutOfMemory();
             if (found.answer !== OK) throw new Refused(REFUSALS[found.answer]);
             if (found.verdict) return { ...found, blocks: blocksNamed(this.base.read(), this.processors, this.keys) };
@@ -308,7 +310,7 @@ class Hunt {
         const explored = this.from ? null : await this.explore();
         if (explored && (explored.kind === FOUND || explored.kind === HUNG)) return this.first(explored);
         const right = explored && explored.kind === CLEAN;
-        if (right && !this.rules.word) return { right: explored.states, tried: 0 };
+        if (right && !this.rules.word) return { right: explored.states, ends: explored.ends, tried: 0 };
         const open = explored && explored.kind === OPEN ? explored : null, delayed = open && this.isOn ? await this.delays() : null;
         if (delayed && delayed.verdict) return this.delayed(delayed);
         await this.seeds();
