@@ -3,6 +3,7 @@
 The last line is `N passed, M failed`."""
 
 import argparse
+import contextlib
 import os
 import pathlib
 import re
@@ -16,6 +17,7 @@ from browser import Browser
 TOP = pathlib.Path(__file__).resolve().parent.parent.parent
 LABS = sorted(it.stem for it in (TOP / "examples/labs").glob("*.s") if not it.stem.endswith("-fixed"))
 UNFAIR = {"barrier-reuse"}  # found by few seeds alone
+WRONG = {"stuck": "stuck", "hung": "no order comes to an end any more", "output": "the console has sent something else", "end": "not off"}
 
 TWO = """0 0 80000200 <main> 34090005 ori $9, $0, 0x0005  r9=00000005
 1 0 80000204 <main+4> 3c088000 lui $8, 0x8000  r8=80000000
@@ -65,6 +67,38 @@ add:    ll      $12, 4096($11)
 """
 
 
+# Takes some 1,400 Steps.
+SLOW = """        ori     $14, $0, 700
+down:   addiu   $14, $14, -1
+        bne     $14, $0, down
+        nop
+"""
+# Prints a digit, in $12, and waits until it was sent.
+PRINTED = """addiu   $12, $12, 48
+        lui     $14, 0xbfe0
+        sw      $12, 0($14)
+sent:   lw      $12, 4($14)
+        andi    $12, $12, 2
+        beq     $12, $0, sent
+        nop
+"""
+# An addition that may be lost, and a look whether it was.
+ADDED = """        lw      $12, 4224($11)
+        addiu   $12, $12, 1
+        sw      $12, 4224($11)
+"""
+LOOKED = """        lw      $12, 4224($11)
+        addiu   $12, $12, -2
+        bne     $12, $0, rest
+        nop
+"""
+
+
+def lengths(schedule):
+    """How many events a schedule's lines have."""
+    return sum(int(it[2]) if len(it) > 2 else 1 for it in map(str.split, schedule))
+
+
 class Page:
     """The uses of the page, each with what its elements show then."""
 
@@ -95,6 +129,60 @@ class Page:
         self.b.click("#hunt")
         self.b.wait("!hunting && $('hunted').textContent !== ''", 60)
         return self.text("hunted")
+
+    def find_by_few(self):
+        """Looks for a bad interleaving, up to the first seeds."""
+        self.b.click("#hunt")
+        self.b.wait("!hunting || /seeds tried/.test($('hunted').textContent)", 60)
+        if self.b.js("hunting"):
+            self.b.click("#hunt")
+            self.b.wait("!hunting")
+        return self.text("hunted")
+
+    @contextlib.contextmanager
+    def changed(self, old, new):
+        """The page with another text in the place of one, meanwhile."""
+        text = pathlib.Path(self.url[7:]).read_text()
+        assert text.count(old) == 1, old
+        with tempfile.TemporaryDirectory() as folder:
+            path = pathlib.Path(folder) / "index.html"
+            path.write_text(text.replace(old, new))
+            self.b.open(path.as_uri())
+            yield
+        self.b.open(self.url)
+
+    def unexplored(self):
+        """The page, but it explores 512 states alone, so that it tries delays on nearly each lab."""
+        return self.changed("EXPLORE_MS = 6000", "EXPLORE_MS = 0")
+
+    def s161(self, source, command, *words):
+        """The lines that the release's program prints of a kernel."""
+        with tempfile.TemporaryDirectory() as folder:
+            image = f"{folder}/it.elf"
+            with open(image, "wb") as out:
+                subprocess.run([TOP / "release/s161", "as"], input=source.encode(), stdout=out, check=True)
+            return subprocess.run([TOP / "release/s161", command, image, *words], capture_output=True, text=True).stdout.splitlines()
+
+    def sought(self, delays, within="", words=("--hung", "2000")):
+        """What the program says of the source's runs by turns with so many delays, in the page's words."""
+        source, cpus, limit = (self.b.js(f"$('{id}').value") for id in ("source", "cpus", "limit"))
+        more = ["--within", within] if within else []
+        lines = self.s161(source, "search", "--cpus", cpus, "--delays", str(delays), "--events", limit, "--whole", *more, *words)
+        if lines[0].startswith("clean"):
+            runs, cut = re.fullmatch(r"clean (\d+)(?: cut (\d+))?", lines[0]).groups()
+            few = f"{int(runs):,} runs by turns with at most {'one delay' if delays == 1 else 'two delays'}" + (f" at the first {int(within):,} choices" if within else "")
+            return few + (f" ({int(cut):,} of them cut after {int(limit):,} events)" if cut else "")
+        choices, verdict = lines[1].split()[2:], lines[2].split()[1]
+        where = ["", " with one delay, at choice ", " with delays at the choices "][len(choices)] + " and ".join(choices)
+        return f"Turns{where}: {WRONG[verdict]} after " + (f"{lengths(lines[3:]):,} events." if verdict != "hung" else "")
+
+    def are_sought(self, said, words=("--hung", "2000")):
+        """The runs with few delays that the page counts are those of the program."""
+        found = re.findall(r"([\d,]+ runs? by turns with at most (one|two) delays?(?: at the first ([\d,]+) choices)?(?: \(.*? events\))?)", said)
+        assert found, said
+        for runs, most, within in found:
+            wanted = self.sought(1 if most == "one" else 2, within.replace(",", ""), words)
+            assert runs == wanted, (said, wanted)
 
     def press(self, keys):
         for key in keys:
@@ -278,30 +366,118 @@ class Page:
                 assert self.data("states") == "527", said
         assert right >= 6, right
 
-    def delays(self):
-        """Where there are too many states, every run with few delays is made, before the seeds: `s161 search --delays 2` finds the same."""
-        slow = "sw      $12, 4096($11)\n        ori $14, $0, 700\ndown: addiu $14, $14, -1\n bne $14, $0, down\n nop\n"
-        self.choose("lost-update")
-        self.write(self.b.js("$('source').value").replace("sw      $12, 4096($11)\n", slow))
-        self.b.type("#limit", "5000")
-        said = self.find()
-        assert "Turns with one delay, at choice 11: stuck after 4,241 events. No run with fewer delays is so." in said, said
-        assert (self.data("found"), self.data("delays"), self.data("stop"), self.data("events")) == ("stuck", "11", "stuck", "4241")
-        assert self.b.js("$('order').value") == "schedule"
-        self.choose("lost-update-fixed")
+    def slow(self, name):
+        """A lab of too many states: behind its addition each processor counts down."""
+        self.choose(name)
         source = self.b.js("$('source').value")
-        at = source.index("\n", source.index("sc      $")) + 1
-        rest = source[at:].split("\n")
-        loop = next(i for i, line in enumerate(rest) if line.strip() == "nop") + 1
-        self.write(source[:at] + "\n".join(rest[:loop]) + "\n" + slow.split("\n", 1)[1] + "\n".join(rest[loop:]))
+        at = source.index("\n# the second to come through")
+        self.write(source[:at] + SLOW + source[at:])
         self.b.type("#limit", "5000")
-        self.b.click("#hunt")
-        self.b.wait("!hunting || /seeds tried/.test($('hunted').textContent)", 60)
-        if self.b.js("hunting"):
+
+    def delays(self):
+        """Where there are too many states, runs with few delays are made before the seeds: `s161 search --delays` finds the same, or as many."""
+        self.slow("lost-update")
+        said, wanted = self.find(), self.sought(2)
+        assert said == wanted + " No run with fewer delays is so.", (said, wanted)
+        assert (self.data("found"), self.data("delays"), self.data("stop")) == ("stuck", "11", "stuck") and f"after {int(self.data('events')):,} events" in wanted
+        assert self.b.js("$('order').value") == "schedule"
+        self.slow("lost-update-fixed")
+        said = self.find_by_few()
+        assert "There are more than" in said and " events nothing goes wrong. None of" in said and "none went wrong" in said, said
+        self.are_sought(said)
+
+    def delays_stopped(self):
+        """The search stops at once in the middle of the delays, by a key, and says of no more runs than were made."""
+        with self.unexplored():
+            self.slow("lost-update-fixed")
+            self.b.js("void (window.stopped = new Promise(go => $('hunt').addEventListener('keydown', () => { const t = performance.now(); "
+                      "new MutationObserver(() => go(performance.now() - t)).observe(document.body, { attributeFilter: ['data-hunt'] }); }, { once: true })))")
             self.b.click("#hunt")
-            self.b.wait("!hunting")
-        said = self.text("hunted")
-        assert "There are more than" in said and "runs by turns with at most two delays at the first" in said and "none went wrong" in said, said
+            self.b.wait("/^\\d,?\\d\\d\\d runs with few delays/.test($('hunted').textContent)")
+            self.b.js("$('hunt').focus()")
+            self.b.key("Enter")
+            ms = self.b.js("stopped")
+            said = self.text("hunted")
+            print(f"  stopped in {ms:.0f} ms: {said}")
+            assert ms < 500 and "(stopped)" in said and "0 seeds tried" in said, (ms, said)
+            self.are_sought(said)
+
+    def labs_by_delays(self):
+        """Each lab that isn't explored is found by the delays by which the program finds it; of a fixed one as many runs are right."""
+        found = right = 0
+        with self.unexplored():
+            for name in LABS + [it + "-fixed" for it in LABS]:
+                self.choose(name)
+                said = self.find_by_few()
+                if "No shorter run" in said or "Right in every order" in said:
+                    continue
+                wanted = self.sought(2)
+                if name.endswith("-fixed"):
+                    right += f" None of {wanted} goes wrong. " in said
+                    self.are_sought(said)
+                else:
+                    found += 1
+                    assert said.startswith(wanted) and ("No run with fewer delays is so." in said) == ("delay" in wanted), (name, said, wanted)
+            # with two early delays this one goes wrong, and with a late one: that is shown
+            self.choose("sequence-lock")
+            source = self.b.js("$('source').value").replace("over:   ", "over:\n" + SLOW + ADDED + "count:  ").replace("$0, over", "$0, count")
+            self.write(source.replace("        sw      $0, -504($8)", LOOKED + "        sw      $0, -504($8)"))
+            self.b.type("#limit", "5000")
+            said, wanted = self.find(), self.sought(2)
+            assert said == wanted + " No run with fewer delays is so." and "one delay" in wanted and "and" in self.sought(2, "16"), (said, wanted)
+        assert found >= 9 and right >= 10, (found, right)
+
+    def delays_by_rules(self):
+        """Runs with few delays are judged by what the user says, and nothing is said of what isn't judged."""
+        with self.unexplored(), tempfile.TemporaryDirectory() as folder:
+            sent = pathlib.Path(folder) / "sent"
+            asked = ["--output", str(sent)]
+            self.b.js("document.querySelectorAll('#left details')[1].open = true")
+            # not off: behind no delay, one, and two
+            sent.write_text("")
+            for limit in (40, 45, 50):
+                self.choose("lost-update-fixed")
+                self.b.type("#limit", str(limit))
+                said, wanted = self.find(), self.sought(2, words=asked)
+                assert f"not off after {limit} events." in wanted and said.startswith(wanted), (said, wanted)
+                assert (self.data("stop"), self.data("events")) == ("end", str(limit))
+            # the word isn't known there
+            self.choose("lost-update-fixed")
+            self.b.type("#limit", "2000"), self.b.type("#ifword", "80001000"), self.b.type("#ifvalue", "2")
+            said = self.find_by_few()
+            assert " events nothing but the word can go wrong. The word aside, none of " in said, said
+            self.are_sought(said)
+            self.b.type("#ifword", ""), self.b.type("#ifvalue", "")
+            # another output: the count is printed in the place of a look at it
+            self.b.click("#ifoutput")
+            self.b.type("#output", "2")
+            sent.write_text("2")
+            for name in ("lost-update", "lost-update-fixed"):
+                self.choose(name)
+                source, n = re.subn(r"addiu +\$12, \$12, -2\n.*\n.*\n", PRINTED, self.b.js("$('source').value"))
+                assert n == 1
+                self.write(source)
+                said = self.find_by_few()
+                if name == "lost-update":
+                    assert said == self.sought(2, words=asked) + " No run with fewer delays is so." and "something else" in said, said
+                    self.b.js("select(run.last)")
+                    assert self.data("stop") == "off" and self.text("console") == "1", self.text("console")
+                else:
+                    assert " events nothing is stuck. None of " in said, said
+                    self.are_sought(said, asked)
+            # a run that has sent what it has to is stuck all the same
+            self.write(source.replace("sw      $0, -504($8)", "nop"))
+            assert self.find() == self.sought(2) and self.data("stop") == "stuck", self.text("hunted")
+            self.write(source)
+            self.b.click("#ifend")
+            assert "by turns" not in self.find_by_few(), self.text("hunted")
+            self.b.click("#ifoutput")
+            # a run that need not end is cut
+            self.choose("two-locks")
+            self.b.type("#limit", "300")
+            said = self.find_by_few()
+            assert " of them cut after 300 events)" in said, said
+            self.are_sought(said, ["--hung", "0"])
 
     def as_found(self):
         """The run of the seed itself is there, too."""
@@ -336,6 +512,20 @@ class Page:
         self.b.wait("!hunting")
         assert "needs an address" in self.text("said"), self.text("said")
         self.b.type("#ifword", ""), self.b.type("#ifvalue", "")
+        # a kernel that hangs is right if it need not end, but not said to end; its output is looked at
+        self.choose("two-locks")
+        self.b.click("#ifend")
+        source, said = self.b.js("$('source').value"), self.find()
+        _, states, kind, *_ = self.s161(source, "explore", "--cpus", "2")
+        assert kind == "# hung" and said == f"Right in every order: {int(states[9:]):,} states. In whatever order and for however long, nothing goes wrong.", said
+        self.b.click("#ifoutput")
+        self.b.type("#output", "ho")
+        with tempfile.NamedTemporaryFile("w") as sent:
+            sent.write("ho"), sent.flush()
+            _, states, kind, *events = self.s161(source, "explore", "--cpus", "2", "--output", sent.name)
+        said = self.find()
+        assert kind == "# output" and said.startswith(f"After {lengths(events)} events: {WRONG['output']}. ") and f" {int(states[9:]):,} states come before it" in said, said
+        self.b.click("#ifend"), self.b.click("#ifoutput")
         self.choose("hello")
         self.b.choose("#cpus", 1)
         self.b.click("#ifoutput")
@@ -372,25 +562,14 @@ class Page:
             self.b.type("#number", str(number)), self.b.type("#limit", "300")
             self.run()
             assert " ".join(words) in self.b.js("commandOf(settings())")
-            lines = self.s161(words)
-            assert lines is None or self.b.js("run.events.map(e => e.line).join('\\n')") == lines, order
+            lines = self.s161(self.b.js("$('source').value"), "trace", "--cpus", "2", "--events", "300", *words)
+            assert self.b.js("run.events.map(e => e.line)") == lines[:-1] and lines[-1].startswith("stop: "), order
         self.choose("two-locks")
         self.b.type("#limit", "300")
         self.run()
         self.b.click("#more")
         self.idle()
         assert self.data("events") == "2300" and self.b.js("$('limit').value") == "2300" and self.b.js("sel") == 300
-
-    def s161(self, words):
-        program = TOP / "release/s161"
-        if not program.is_file():
-            return None
-        with tempfile.TemporaryDirectory() as folder:
-            image = f"{folder}/it.elf"
-            with open(image, "wb") as out:
-                subprocess.run([program, "as"], stdin=open(TOP / "examples/labs/two-locks.s", "rb"), stdout=out, check=True)
-            said = subprocess.run([program, "trace", image, "--cpus", "2", "--events", "300", *words], capture_output=True, text=True).stdout
-        return "\n".join(line for line in said.splitlines() if not line.startswith("stop: "))
 
     def link_and_file(self):
         """The address has the run, and so has a saved file."""
@@ -545,14 +724,8 @@ class Page:
 
     def trap(self):
         """After a trap of the engine the machine is dropped, the page says so, and goes on with a new one."""
-        self.choose("lost-update")
-        text = pathlib.Path(self.url[7:]).read_text()
-        wrong = text.replace("    view({ k, from, count, version }) {\n", "    view({ k, from, count, version }) {\n        if (k === 7) engine.call('host_free', 0xfffffff0n);\n")
-        assert wrong != text
-        with tempfile.TemporaryDirectory() as folder:
-            path = pathlib.Path(folder) / "index.html"
-            path.write_text(wrong)
-            self.b.open(path.as_uri())
+        view = "    view({ k, from, count, version }) {\n"
+        with self.changed(view, view + "        if (k === 7) engine.call('host_free', 0xfffffff0n);\n"):
             self.b.js("select(6)")
             self.b.wait("document.body.dataset.trap")
             self.b.wait("/dropped/.test($('said').textContent)")
@@ -561,24 +734,17 @@ class Page:
             assert self.data("events") == "44" and self.text("said") == ""
             self.b.js("select(8)")
             self.b.wait("isView()")
-        self.b.open(self.url)
 
     def refused_memory(self):
         """Where the browser gives no memory, the page says so, and the run stays."""
-        text = pathlib.Path(self.url[7:]).read_text()
-        wrong = text.replace("    run({ file, size, blocks, plan, keys, limit }) {\n", "    run({ file, size, blocks, plan, keys, limit }) {\n        engine.call('host_refuse', limit === 77 ? 4n : 0n);\n")
-        assert wrong != text
-        with tempfile.TemporaryDirectory() as folder:
-            path = pathlib.Path(folder) / "index.html"
-            path.write_text(wrong)
-            self.b.open(path.as_uri())
+        run = "    run({ file, size, blocks, plan, keys, limit }) {\n"
+        with self.changed(run, run + "        engine.call('host_refuse', limit === 77 ? 4n : 0n);\n"):
             self.b.type("#limit", "77")
             self.run()
             assert "out of memory" in self.text("said"), self.text("said")
             self.b.type("#limit", "2000")
             self.run()
             assert self.text("said") == "" and self.data("events") == "44"
-        self.b.open(self.url)
 
     def without_machine(self):
         """The page as it is written, without a module, opens a trace."""
@@ -633,7 +799,7 @@ class Page:
         assert not thrown, thrown[:1]
 
 
-USES = ["opens", "document", "contrast", "keys", "buttons", "machines_own", "by_hand", "faults", "spins", "orders", "labs", "delays", "as_found", "rules", "busy", "watch", "typed", "kernel_in_c", "link_and_file",
+USES = ["opens", "document", "contrast", "keys", "buttons", "machines_own", "by_hand", "faults", "spins", "orders", "labs", "delays", "delays_stopped", "labs_by_delays", "delays_by_rules", "as_found", "rules", "busy", "watch", "typed", "kernel_in_c", "link_and_file",
         "exports", "small_trace", "many_lines", "trap", "refused_memory", "without_machine", "narrow", "projector", "by_keyboard", "quiet"]
 
 

@@ -24,16 +24,19 @@ async function hunt(from = 0) {
         const s = settings(), file = await assembled(s);
         if (file) {
             if (!run.file || run.base.source !== s.source) run.symbols = readElf(file).symbols;
-            const plan = { ...planOf({ ...s, order: orderOf(s) }) };
-            const got = await machine.call('hunt', { file, size: sizeOf(s), plan, keys: keysOf(s), limit: s.limit, rules: rules(), from, most: from + SEEDS },
+            const plan = { ...planOf({ ...s, order: orderOf(s) }) }, asked = rules();
+            const got = await machine.call('hunt', { file, size: sizeOf(s), plan, keys: keysOf(s), limit: s.limit, rules: asked, from, most: from + SEEDS },
                 ({ tried, states, runs }) => sayHunt(states ? `more than ${count(states)} states` : runs ? `${count(runs)} runs with few delays` : `${count(from + tried)} seeds tried`));
             hunted = from + (got.tried || 0);
-            if (got.first) await showFirst(s, got); else if (got.delays) await showDelayed(s, got); else if (got.bad) await showFound(s, got); else if (got.right) sayRight(got); else sayNone(got);
+            if (got.first) await showFirst(s, got); else if (got.delays) await showDelayed(s, got); else if (got.bad) await showFound(s, got); else if (got.right) sayRight(got); else sayNone(s, asked, got);
         }
     } catch (error) { sayHunt(''); sayFault(error.message); }
     hunting = false; $('hunt').textContent = 'Find a bad interleaving'; document.body.dataset.hunt = '';
 }
-function sayRight({ right }) { sayHunt(`<b>Right in every order: ${count(right)} states.</b> In whatever order and for however long, nothing goes wrong, and it can always come to its end.`); document.body.dataset.states = right; }
+function sayRight({ right, ends }) {
+    sayHunt(`<b>Right in every order: ${count(right)} states.</b> In whatever order and for however long, nothing goes wrong${ends ? ', and it can always come to its end' : ''}.`);
+    document.body.dataset.states = right;
+}
 // Shows the first list of events that goes wrong: no shorter one does.
 async function showFirst(s, { bad, states, events, blocks, then }) {
     if (!await assembleAndRun(undefined, { blocks, plan: { kind: 0, turns: then.turns, transfer: s.transfer, gap: null } })) return;
@@ -45,13 +48,20 @@ const WRONG = { hung: 'no order comes to an end any more', stuck: 'stuck', confl
 async function showDelayed(s, { bad, delays, events, blocks, then }) {
     if (!await assembleAndRun(undefined, { blocks, plan: { kind: 0, turns: then.turns, transfer: s.transfer, gap: null } })) return;
     const passed = delays.length ? `Turns with ${delays.length > 1 ? `delays at the choices ${delays.join(' and ')}` : `one delay, at choice ${delays[0]}`}` : 'Turns';
-    sayHunt(`<b class="warn">${passed}: ${WRONG[bad]} after ${count(events)} events.</b> No run with fewer delays is so.`);
+    sayHunt(`<b class="warn">${passed}: ${WRONG[bad]} after ${count(events)} events.</b>${delays.length ? ' No run with fewer delays is so.' : ''}`);
     document.body.dataset.found = bad; document.body.dataset.delays = delays.join(' ');
 }
-function sayNone({ stopped, open, delayed, states }) {
+// The runs with so many delays at most, none of which goes wrong.
+function sayRuns({ most, within, runs, cut }, limit) {
+    return `${count(runs)} run${runs === 1 ? '' : 's'} by turns with at most ${most === 1 ? 'one delay' : 'two delays'}${within < limit ? ` at the first ${count(within)} choices` : ''}`
+        + (cut ? ` (${count(cut)} of them cut after ${count(limit)} events)` : '');
+}
+function sayNone({ limit }, asked, { stopped, open, few, states }) {
     const more = hunted ? ` <button data-hunt="${hunted}">Try ${count(SEEDS)} more</button>` : '';
-    const few = delayed ? `Nor in ${count(delayed.runs)} runs by turns with at most two delays at the first ${count(delayed.within)} choices${delayed.cut ? `, of which ${count(delayed.cut)} were cut` : ''}. ` : '';
-    const closed = open ? `There are more than ${count(open.limit)} states, too many to look at all here; up to ${count(open.events)} events nothing goes wrong. ${few}` : states ? `${count(states)} states: nothing but the word can go wrong. ` : '';
+    const nothing = asked.output !== null && open && !open.asked ? 'nothing is stuck' : asked.word ? 'nothing but the word can go wrong' : 'nothing goes wrong';
+    const [one, two] = few.map(it => sayRuns(it, limit));
+    const runs = one ? `${asked.word ? 'The word aside, none' : 'None'} of ${one} goes wrong${two ? `, and none of ${two}` : ''}. ` : '';
+    const closed = open ? `There are more than ${count(open.limit)} states, too many to look at all here; up to ${count(open.events)} events ${nothing}. ${runs}` : states ? `${count(states)} states: nothing but the word can go wrong. ` : '';
     sayHunt(`${closed}<b>${count(hunted)} seeds tried, none went wrong</b>${stopped ? ' (stopped)' : ''}. That is no proof: another order may.${more}`);
 }
 // Shows the run of these blocks, which goes on in turns, and puts its schedule in place.

@@ -16,7 +16,7 @@ const CONTROL = { index: 0, random: 1, entrylo: 2, context: 4, badvaddr: 8, coun
 // An instance of the module. After a trap of the engine its memory may be half written: no call goes through any more.
 class Talusdish {
     static async load(bytes) { return new Talusdish((await WebAssembly.instantiate(bytes, {})).instance.exports); }
-    constructor(exports) { this.exports = exports; this.trapped = null; this.seen = null; this.place = this.room(512); }
+    constructor(exports) { this.exports = exports; this.trapped = null; this.seen = null; this.place = this.room(2048); }
     call(name, ...words) {
         if (this.trapped) throw this.trapped;
         try { return this.exports[name](...words); } catch (error) { this.trapped = error; throw error; }
@@ -32,7 +32,7 @@ class Talusdish {
     // What a call has told: its structs lie here. (The buffer is another one where the memory has grown.)
     told() {
         const { buffer } = this.exports.memory;
-        if (!this.seen || this.seen.buffer !== buffer) this.seen = new DataView(buffer, this.place, 512);
+        if (!this.seen || this.seen.buffer !== buffer) this.seen = new DataView(buffer, this.place, 2048);
         return this.seen;
     }
     // Lends bytes to a call by their address and length.
@@ -117,16 +117,20 @@ class Session {
             this.call('explore', limit, at, n, this.place, 0n, this.place, 0n, output ? 1 : 0, sent, m, this.place) & 255)), v = this.module.told();
         return { answer, kind: v.getUint32(0, true), states: v.getUint32(4, true), events: Number(v.getBigUint64(8, true)), verdict: VERDICTS[v.getUint32(16, true)] };
     }
-    // Every run by turns in which a ready processor is passed over at most so often, at choices of which none comes before `from` and each
-    // before `within`, from the boot of this file. Without an output null; the events that a wrong run's verdict needs are the session's bytes.
-    delays(file, plan, { most, from, within }, n, hung, keys, output) {
-        const lists = this.place + 128n, found = this.place + 192n, { module } = this, told = module.told();
-        told.setUint32(128, most, true); told.setUint32(132, from, true); told.setUint32(136, within, true);
-        const answer = module.lend(file, (image, size) => module.lend(keys, (at, m) => module.lend(output || new Uint8Array(0), (sent, length) =>
-            this.call('delays', image, size, this.plan(plan), lists, BigInt(n), hung, at, m, this.place, 0n, this.place, 0n, output ? 1 : 0, sent, length, found) & 255)));
-        const v = module.told(), long = at => Number(v.getBigUint64(192 + at, true));
-        return { answer, verdict: VERDICTS[v.getUint32(192, true)], runs: long(24), cut: long(32), events: long(40),
-            delays: Array.from({ length: v.getUint32(240, true) }, (_, i) => v.getUint32(244 + 4 * i, true)) };
+    // A slice of the runs by turns in which a ready processor is passed over at most `most` times, at choices of which none comes before `from`
+    // and each before `within`, from the boot of this file: those of the lists of choices from `first` on, at most so many. `next` is the list
+    // to go on from; null where none is left. Without an output null; the events that a wrong run's verdict needs are the session's bytes.
+    slice(file, plan, { most, from, within }, first, runs, n, hung, keys, output) {
+        const { module } = this, lists = 128, list = 192, slice = 512, at = offset => BigInt(module.place + offset), v = module.told();
+        [most, from, within].forEach((it, i) => v.setUint32(lists + 4 * i, it, true));
+        [first.length, ...first].forEach((it, i) => v.setUint32(list + 4 * i, it, true));
+        const answer = module.lend(file, (image, size) => module.lend(keys, (typed, m) => module.lend(output || new Uint8Array(0), (sent, length) =>
+            this.call('slice', image, size, this.plan(plan), at(lists), at(list), BigInt(runs), BigInt(n), hung, typed, m, this.place, 0n, this.place, 0n,
+                output ? 1 : 0, sent, length, at(slice)) & 255)));
+        const w = module.told(), long = offset => Number(w.getBigUint64(slice + offset, true));
+        const listAt = offset => Array.from({ length: w.getUint32(slice + offset, true) }, (_, i) => w.getUint32(slice + offset + 4 + 4 * i, true));
+        return { answer, verdict: VERDICTS[w.getUint32(slice, true)], runs: long(24), cut: long(32), events: long(40), delays: listAt(48),
+            next: w.getUint8(slice + 312) ? listAt(316) : null };
     }
     made() { return Number(this.call('made')); }
     output() { return this.call('output') & 255; }

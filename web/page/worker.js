@@ -219,12 +219,13 @@ function blocksNamed(numbers, processors, keys) {
 }
 
 const EXPLORE_MS = 6000, MOST_STATES = 1 << 20; // how long and how far is explored, before the delays
-// For how long delays are tried, before the seeds: two at most, in turns of so many Steps, in runs of so many events.
-const DELAYS_MS = 4000, MOST_DELAYS = 2, DELAYED_TURNS = 50, DELAYED_EVENTS = 5000, MOST_CHOICES = 1 << 12, FEW_STATES = 2000;
+// For how long delays are tried, before the seeds: in turns of so many Steps, and in slices of so many events at most.
+const DELAYS_MS = 4000, DELAYED_TURNS = 50, SLICE_EVENTS = 500000, FIRST_CHOICES = 16, FEW_STATES = 2000;
 
 class Hunt {
     constructor({ file, size, plan, keys, limit, rules, from, most }, tell) {
-        Object.assign(this, { file, plan, keys, limit, rules, from, most, tell, id: ++hunting, bad: '', seed: from, processors: size.processors });
+        Object.assign(this, { file, plan, keys, limit, rules, from, most, tell, id: ++hunting, bad: '', seed: from, delayedRuns: 0, processors: size.processors });
+        this.output = rules.output === null ? null : Uint8Array.from(rules.output, c => c.charCodeAt(0));
         this.base = booted(file, { ...size, log: limit }); this.tried = new Session(engine);
     }
     get isOn() { return this.id === hunting; }
@@ -237,7 +238,7 @@ class Hunt {
             if (found.answer === NO_MEMORY) throw new OutOfMemory();
             if (found.answer !== OK) throw new Refused(REFUSALS[found.answer]);
             const end = performance.now();
-            if (found.kind !== OPEN || !this.isOn || limit >= MOST_STATES || end + 3 * (end - start) > until) return { ...found, limit };
+            if (found.kind !== OPEN || !this.isOn || limit >= MOST_STATES || end + 3 * (end - start) > until) return { ...found, limit, asked: output !== null };
             this.tell({ states: limit });
             await breathe();
         }
@@ -246,30 +247,69 @@ class Hunt {
     // run that is stuck excuses its output there, so output is asked for once nothing is stuck. null where a run may be stuck.
     async explore() {
         if (!this.rules.stuck) return null;
+        const isRight = ({ kind }) => kind === CLEAN || kind === HUNG && !this.rules.end;
         let found = await this.exploreFor(null);
-        if (found.kind === CLEAN && this.rules.output !== null) found = await this.exploreFor(Uint8Array.from(this.rules.output, c => c.charCodeAt(0)));
-        if (found.kind === HUNG && !this.rules.end) return { ...found, kind: CLEAN };
-        if (found.kind === FOUND || found.kind === HUNG) found.blocks = blocksNamed(this.base.read(), this.processors, this.keys);
+        if (isRight(found) && this.output) found = await this.exploreFor(this.output);
+        if (isRight(found)) return { ...found, kind: CLEAN, ends: found.kind === CLEAN };
+        if (found.kind !== OPEN) found.blocks = blocksNamed(this.base.read(), this.processors, this.keys);
         return found;
     }
-    // Every run by turns with few delays at the first choices: of twice as many choices each time, as long as the next try fits the time.
-    // null where a run may be stuck, or has to send something and need not end: no such search excuses that.
-    async delays() {
-        const { stuck, end, output } = this.rules;
-        if (!stuck || (!end && output !== null)) return null;
+    // A slice of the runs by turns with these delays.
+    slice(lists, first, runs, hung, output) {
         const plan = { kind: TURNS, turns: DELAYED_TURNS, transfer: this.plan.transfer, gap: this.plan.gap };
-        const sent = output === null ? null : Uint8Array.from(output, c => c.charCodeAt(0)), n = Math.min(this.limit, DELAYED_EVENTS);
-        for (let within = 16, until = performance.now() + DELAYS_MS; ; within *= 2) {
-            const start = performance.now();
-            const found = this.base.delays(this.file, plan, { most: MOST_DELAYS, from: 0, within }, n, end ? FEW_STATES : 0, this.keys, sent);
-            if (found.answer === NO_MEMORY) throw new OutOfMemory();
-            if (found.answer !== OK) throw new Refused(REFUSALS[found.answer]);
-            if (found.verdict) return { ...found, blocks: blocksNamed(this.base.read(), this.processors, this.keys) };
-            const now = performance.now();
-            // (a list with one choice more may have no run of its own: then the next try has no more runs)
-            if (!this.isOn || within >= MOST_CHOICES || now + 5 * (now - start) > until) return { ...found, within };
-            this.tell({ runs: found.runs });
-            await breathe();
+        const found = this.base.slice(this.file, plan, lists, first, runs, this.limit, hung, this.keys, output);
+        if (found.answer === NO_MEMORY) throw new OutOfMemory();
+        if (found.answer !== OK) throw new Refused(REFUSALS[found.answer]);
+        return found;
+    }
+    // (A run that was cut isn't off. The search calls that wrong only where an output is asked for.)
+    isWrongSlice({ verdict, cut }) { return verdict !== '' || cut > 0 && this.rules.end; }
+    // The first run that goes wrong, of which there is one among so many from this list on. Where it was cut and isn't known to hang, its events
+    // are told by asking for an output, whichever.
+    firstWrong(lists, first, runs, output) {
+        while (runs > 1) {
+            const half = runs >> 1, found = this.slice(lists, first, half, 0, output);
+            if (this.isWrongSlice(found)) runs = half; else { runs -= half; first = found.next; }
+        }
+        const found = this.slice(lists, first, 1, this.rules.end ? FEW_STATES : 0, output);
+        const told = found.verdict ? found : this.slice(lists, first, 1, 0, new Uint8Array(0));
+        return { ...told, blocks: blocksNamed(this.base.read(), this.processors, this.keys) };
+    }
+    // The runs with these delays, up to the first that goes wrong, or as long as there is time: then `next` is the first list that is left.
+    async slices(lists, output, until) {
+        const longest = Math.max(1, Math.trunc(SLICE_EVENTS / this.limit));
+        let next = [], runs = 0, cut = 0;
+        for (let most = 1; next && this.isOn && performance.now() < until; await breathe()) {
+            const start = performance.now(), found = this.slice(lists, next, most, 0, output), ms = performance.now() - start;
+            if (this.isWrongSlice(found)) return this.firstWrong(lists, next, most, output);
+            next = found.next; runs += found.runs; cut += found.cut; this.delayedRuns += found.runs;
+            this.tell({ runs: this.delayedRuns });
+            most = Math.max(1, Math.min(longest, ms < 20 ? 2 * most : ms > 40 ? most >> 1 : most));
+        }
+        return { ...lists, runs, cut, next };
+    }
+    // The same by all rules. A run that is stuck excuses its output, so output is asked for once none is.
+    async delayedBy(lists, until) {
+        const found = await this.slices(lists, null, until);
+        return found.verdict || !this.output ? found : this.slices(lists, this.output, found.next ? 0 : until);
+    }
+    // Every run by turns with one delay at most; then with two, at all choices if that is likely to fit the time, else at twice as many first
+    // ones each time. What goes wrong, or which runs don't. null where a run may be stuck, or has to send something and need not end: no such
+    // search excuses that.
+    async delays() {
+        const { stuck, end } = this.rules, all = this.limit, start = performance.now(), until = start + DELAYS_MS;
+        if (!stuck || !end && this.output) return null;
+        const one = await this.delayedBy({ most: 1, from: 0, within: all }, until), ms = performance.now() - start;
+        if (one.verdict) return one;
+        if (one.next) return { right: one.runs ? [{ ...one, within: one.next[0] }] : [] };
+        const fits = ms * one.runs / 2 < DELAYS_MS - ms; // (with two there are about half as many as the square of these)
+        let right = [one];
+        for (let within = fits ? all : Math.min(all, FIRST_CHOICES); ; within = Math.min(all, 2 * within)) {
+            const two = await this.delayedBy({ most: 2, from: 0, within }, until);
+            if (two.verdict) return two;
+            if (two.next) return { right };
+            right = within < all ? [one, two] : [two];
+            if (within === all) return { right };
         }
     }
     async seeds() {
@@ -308,11 +348,11 @@ class Hunt {
         const explored = this.from ? null : await this.explore();
         if (explored && (explored.kind === FOUND || explored.kind === HUNG)) return this.first(explored);
         const right = explored && explored.kind === CLEAN;
-        if (right && !this.rules.word) return { right: explored.states, tried: 0 };
+        if (right && !this.rules.word) return { right: explored.states, ends: explored.ends, tried: 0 };
         const open = explored && explored.kind === OPEN ? explored : null, delayed = open && this.isOn ? await this.delays() : null;
         if (delayed && delayed.verdict) return this.delayed(delayed);
         await this.seeds();
-        const answer = { tried: this.seed - this.from, stopped: !this.isOn, bad: this.bad, open, delayed, states: right ? explored.states : 0 };
+        const answer = { tried: this.seed - this.from, stopped: !this.isOn, bad: this.bad, open, few: delayed ? delayed.right : [], states: right ? explored.states : 0 };
         if (!this.bad) return answer;
         // A run that is to be stuck goes on in turns of a million; one that isn't over in turns of 60, since it has to be fair: else a
         // processor would spin only because the other one makes no Step.
