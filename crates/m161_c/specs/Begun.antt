@@ -1,4 +1,4 @@
-use Rattle.std.specs.Prelude.{◌≡◌, ℕ, ◌<◌, length, Option, None, Some}
+use Rattle.std.specs.Prelude.{◌≡◌, ℕ, ◌^◌, ◌<◌, length, Option, None, Some}
 use Rattle.m161_judge.specs.Verdict.{Criteria}
 use Rattle.m161_machine.specs.State.{State}
 use Rattle.m161_reach.specs.Exploring.{Exploring, GoesOnExploring, IsExploring}
@@ -19,6 +19,7 @@ pub record Begun : Type 0 where
 pub record IsBegun (b : Begun) : Type 0 where
   pub boot : IsAtBoot b.boot
   pub some : 0 < b.limit
+  pub fits : b.limit < 2 ^ 32
   pub good : AreAllGood b.boot b.goal
   pub asked : CanBeAsked b.boot b.goal
   pub exploring : IsExploring b.boot b.goal b.limit b.exploring

@@ -159,10 +159,12 @@ pub(crate) fn begin(
         output,
         keys,
     };
-    let exploring = begin_boot(alloc, &boot, &goal)?;
-    match keep(alloc, boot, limit, &goal, exploring) {
-        Ok(begun) => Ok(begun),
-        Err(_) => Err(NO_MEMORY),
+    match begin_boot(alloc, &boot, &goal) {
+        Ok(exploring) => match keep(alloc, boot, limit, &goal, exploring) {
+            Ok(begun) => Ok(begun),
+            Err(_) => Err(NO_MEMORY),
+        },
+        Err(answer) => Err(answer),
     }
 }
 
