@@ -398,7 +398,8 @@ uint8_t talusdish_explore_begin(talusdish_slot *slot, uint32_t limit, const uint
  * answer was told, or memory was refused to a slice.
  *
  * The work of a slice is bounded by `number`: a state has as many events as there are processors, and two, and each is tried once. But
- * the slice that tells CLEAN or HUNG also looks once more at all states, for their ends. With `number` 0 nothing is tried. */
+ * where the table of the states grows, a slice goes over all states that were found; and the one that tells CLEAN or HUNG looks once more
+ * at each, for its ends, which takes a good part of the whole time. With `number` 0 nothing is tried. */
 uint8_t talusdish_explore_slice(talusdish_slot *slot, uint32_t number, talusdish_exploration *found);
 
 /* The value of the first symbol of an ELF `file` with this name of `name_size` bytes of UTF-8. 0, and it is told; else nothing is:

@@ -155,10 +155,10 @@ def _judged(answer: int) -> None:
 
 
 def _states_at_once(cpus: int) -> int:
-    """How many states a slice of an exploration tries, so that it takes some 50 ms at most: with two processors and little RAM a state
-    takes about 10 microseconds, so 4,096 of them. With twice the processors a state has twice the events, and each makes a state twice
-    as large."""
-    return 16384 // cpus**2
+    """How many states a slice of an exploration tries, so that it takes some 20 ms, and hardly ever more than 50: with two processors a
+    state takes about 10 microseconds, so 2,048 of them. With twice the processors a state has twice the events, and each makes a state
+    that is twice as large."""
+    return 8192 // cpus**2
 
 
 def _slot() -> Slot:
@@ -411,10 +411,10 @@ class Machine:
         machine is off and the console hasn't sent just that. The machine stays as it is. Gives Clean, Found, Hung or Open.
 
         The states are looked at in this thread, in slices, each a call of the library that takes a small part of a second; but the one
-        that gives Clean or Hung looks once more at all of them. Behind each slice without an answer, `progress` is called with how many
-        states were found so far; what it raises ends the exploration, and so does Ctrl-C. They are never fewer than before, but where a
-        Step reads Random or Count for the first time: states that only these tell apart counted as one, and are looked for anew. The
-        machine is in this call all the while, so that no other thread can use it, nor can `progress`.
+        that gives Clean or Hung looks once more at all of them, which takes longer. Behind each slice without an answer, `progress` is
+        called with how many states were found so far; what it raises ends the exploration, and so does Ctrl-C. They are never fewer
+        than before, but where a Step reads Random or Count for the first time: states that only these tell apart counted as one, and
+        are looked for anew. The machine is in this call all the while, so that no other thread can use it, nor can `progress`.
 
         Raises BadWatch, ValueError for no states, or MemoryError."""
         limit = within("states", states)
