@@ -83,22 +83,24 @@ function explorations(text) {
         begin();
         const it = new Session(engine);
         it.boot(image, sizeOf(text, 2, false));
-        const found = it.explore(limit, new TextEncoder().encode('ab'), k === 2 ? new TextEncoder().encode('hi') : null);
+        const answer = engine.lend(Buffer.from('ab'), (at, n) => engine.lend(Buffer.from('hi'), (sent, m) =>
+            it.call('explore', limit, at, n, it.place, 0n, it.place, 0n, k === 2 ? 1 : 0, sent, m, it.place) & 255)), v = engine.told();
+        const said = `kind ${v.getUint32(0, true)} states ${v.getUint32(4, true)} events ${v.getBigUint64(8, true)} verdict ${v.getUint32(16, true)}`;
         seeBytes(it);
-        say(`explore ${limit} answer ${found.answer} kind ${found.kind} states ${found.states} events ${found.events} verdict ${VERDICTS.indexOf(found.verdict)}`);
+        say(`explore ${limit} answer ${answer} ${said}`);
         it.close();
     }
 }
 
 function slices(text) {
     begin();
-    const it = new Session(engine), slice = () => it.call('explore_slice', 7, it.place) & 255, told = at => engine.told().getUint32(at, true);
+    const it = new Session(engine);
     it.boot(image, sizeOf(text, 2, false));
-    byte(engine.lend(new TextEncoder().encode('ab'), (at, n) => it.call('explore_begin', 300, at, n, it.place, 0n, it.place, 0n, 0, it.place, 0n) & 255));
-    let answer;
-    while ((answer = slice()) === 25) { word(told(0)); word(told(4)); }
-    seeBytes(it); byte(slice());
-    say(`slices answer ${answer} kind ${told(0)} states ${told(4)} events ${engine.told().getBigUint64(8, true)} verdict ${told(16)}`);
+    byte(it.beginToExplore(300, Buffer.from('ab'), null));
+    let found;
+    while ((found = it.exploreOn(7)).answer === 25) { word(found.kind); word(found.states); }
+    seeBytes(it); byte(it.exploreOn(7).answer);
+    say(`slices answer ${found.answer} kind ${found.kind} states ${found.states} events ${found.events} verdict ${VERDICTS.indexOf(found.verdict)}`);
     it.close();
 }
 

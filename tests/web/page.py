@@ -140,20 +140,35 @@ class Page:
         return self.text("hunted")
 
     @contextlib.contextmanager
-    def changed(self, old, new):
-        """The page with another text in the place of one, meanwhile."""
+    def changed(self, *changes):
+        """The page with other texts in the places of some, in turn old and new, meanwhile."""
         text = pathlib.Path(self.url[7:]).read_text()
-        assert text.count(old) == 1, old
+        for old, new in zip(changes[::2], changes[1::2]):
+            assert text.count(old) == 1, old
+            text = text.replace(old, new)
         with tempfile.TemporaryDirectory() as folder:
             path = pathlib.Path(folder) / "index.html"
-            path.write_text(text.replace(old, new))
+            path.write_text(text)
             self.b.open(path.as_uri())
             yield
         self.b.open(self.url)
 
     def unexplored(self):
         """The page, but it explores 512 states alone, so that it tries delays on nearly each lab."""
-        return self.changed("EXPLORE_MS = 6000", "EXPLORE_MS = 0")
+        return self.changed("MOST_STATES = 1 << 20", "MOST_STATES = 512")
+
+    def stopped(self, *waited):
+        """Looks for a bad interleaving, and stops that by a key once all of this holds: after how many ms it has, and what it says."""
+        self.b.js("void (window.stopped = new Promise(go => $('hunt').addEventListener('keydown', () => { const t = performance.now(); "
+                  "new MutationObserver(() => go(performance.now() - t)).observe(document.body, { attributeFilter: ['data-hunt'] }); }, { once: true })))")
+        self.b.click("#hunt")
+        for it in waited:
+            self.b.wait(it)
+        self.b.js("$('hunt').focus()")
+        self.b.key("Enter")
+        ms, said = self.b.js("stopped"), self.text("hunted")
+        print(f"  stopped in {ms:.0f} ms: {said}")
+        return ms, said
 
     def s161(self, source, command, *words):
         """The lines that the release's program prints of a kernel."""
@@ -183,6 +198,27 @@ class Page:
         for runs, most, within in found:
             wanted = self.sought(1 if most == "one" else 2, within.replace(",", ""), words)
             assert runs == wanted, (said, wanted)
+
+    def explored(self, states=1 << 20, words=()):
+        """What the program says of all states of the source, in the page's words."""
+        source, cpus = (self.b.js(f"$('{id}').value") for id in ("source", "cpus"))
+        lines = self.s161(source, "explore", "--cpus", cpus, "--states", str(states), *words)
+        if lines[0].startswith("clean"):
+            return f"Right in every order: {int(lines[0].split()[1]):,} states."
+        if lines[0].startswith("open"):
+            more, events = map(int, lines[0].split()[1:])
+            return f"There are more than {more:,} states, too many to look at all here; up to {events:,} events"
+        number, verdict = int(lines[1].split()[2]), lines[2].split()[1]
+        return f"After {lengths(lines[3:]):,} events: {WRONG[verdict]}. No shorter run is so; {number:,} states {'in all' if verdict == 'hung' else 'come before it'}."
+
+    def are_more(self, said, words=()):
+        """There are more states than the page says, and up to so many events nothing goes wrong: so says the program of an eighth as many."""
+        more, events = re.match(r"There are more than ([\d,]+) states(?:, too many to look at all here; up to ([\d,]+) events|\.) ", said).groups()
+        number = int(more.replace(",", ""))
+        assert self.explored(number, words).startswith(f"There are more than {more} states"), said
+        if events:
+            few = number if number in (512, 1 << 20) else number >> 3
+            assert self.explored(few, words) == f"There are more than {few:,} states, too many to look at all here; up to {events} events", said
 
     def press(self, keys):
         for key in keys:
@@ -342,7 +378,7 @@ class Page:
             said = self.find()
             if name in UNFAIR and "none went wrong" in said:
                 continue
-            assert "goes wrong" in said or "No shorter run is so" in said, (name, said)
+            assert "goes wrong" in said or said == self.explored(), (name, said)
             stop, events = self.data("stop"), self.data("events")
             assert self.b.js("$('order').value") == "schedule" and self.data("mismatches") == "0"
             turns = self.b.js("parseSchedule($('schedule').value).length")
@@ -360,19 +396,26 @@ class Page:
             print(f"  {name}-fixed: {said}", flush=True)
             if "Right in every order" in said:
                 right += 1
+                assert said == self.explored() + " In whatever order and for however long, nothing goes wrong, and it can always come to its end.", (name, said)
             else:
-                assert "none went wrong" in said and "no proof" in said and "There are more than" in said, (name, said)
+                assert "none went wrong" in said and "no proof" in said, (name, said)
+                self.are_more(said)
             if name == "lost-update":
                 assert self.data("states") == "527", said
         assert right >= 6, right
 
-    def slow(self, name):
+    def slow(self, name, text=SLOW):
         """A lab of too many states: behind its addition each processor counts down."""
         self.choose(name)
         source = self.b.js("$('source').value")
         at = source.index("\n# the second to come through")
-        self.write(source[:at] + SLOW + source[at:])
+        self.write(source[:at] + text + source[at:])
         self.b.type("#limit", "5000")
+
+    def numbers(self):
+        """Has the page note how many states it says that there are, while it looks at them."""
+        self.b.js("void (window.numbers = [], new MutationObserver(() => { const it = /^more than ([\\d,]+) states$/.exec($('hunted').textContent); "
+                  "if (it) numbers.push(+it[1].replaceAll(',', '')); }).observe($('hunted'), { childList: true }))")
 
     def delays(self):
         """Where there are too many states, runs with few delays are made before the seeds: `s161 search --delays` finds the same, or as many."""
@@ -383,24 +426,112 @@ class Page:
         assert self.b.js("$('order').value") == "schedule"
         self.slow("lost-update-fixed")
         said = self.find_by_few()
-        assert "There are more than" in said and " events nothing goes wrong. None of" in said and "none went wrong" in said, said
-        self.are_sought(said)
+        assert " events nothing goes wrong. None of" in said and "none went wrong" in said, said
+        self.are_more(said), self.are_sought(said)
 
     def delays_stopped(self):
         """The search stops at once in the middle of the delays, by a key, and says of no more runs than were made."""
         with self.unexplored():
             self.slow("lost-update-fixed")
-            self.b.js("void (window.stopped = new Promise(go => $('hunt').addEventListener('keydown', () => { const t = performance.now(); "
-                      "new MutationObserver(() => go(performance.now() - t)).observe(document.body, { attributeFilter: ['data-hunt'] }); }, { once: true })))")
-            self.b.click("#hunt")
-            self.b.wait("/^\\d,?\\d\\d\\d runs with few delays/.test($('hunted').textContent)")
-            self.b.js("$('hunt').focus()")
-            self.b.key("Enter")
-            ms = self.b.js("stopped")
-            said = self.text("hunted")
-            print(f"  stopped in {ms:.0f} ms: {said}")
+            ms, said = self.stopped("/^\\d,?\\d\\d\\d runs with few delays/.test($('hunted').textContent)")
             assert ms < 500 and "(stopped)" in said and "0 seeds tried" in said, (ms, said)
-            self.are_sought(said)
+            self.are_more(said), self.are_sought(said)
+
+    def exploring_stopped(self):
+        """The search stops at once in the middle of all states, by a key, and says nothing that wasn't looked at."""
+        found, rest = "/^more than \\d\\d,?\\d\\d\\d states/.test($('hunted').textContent)", "0 seeds tried, none went wrong (stopped). That is no proof: another order may."
+        self.slow("lost-update-fixed")
+        ms, said = self.stopped(found)
+        assert ms < 300 and re.fullmatch(r"There are more than [\d,]+ states\. " + re.escape(rest), said), (ms, said)
+        self.are_more(said)
+        # while it looks up to how many events nothing goes wrong: as if that took more states than the first look
+        with self.changed("EXPLORE_MS = 6000", "EXPLORE_MS = 100", "this.more >> 3", "MOST_STATES"):
+            self.slow("lost-update-fixed")
+            ms, said = self.stopped(found, "$('hunt').textContent === 'Stop the search' && performance.now() > (window.later ??= performance.now() + 1000)")
+            assert ms < 300 and re.fullmatch(r"There are more than [\d,]+ states\. " + re.escape(rest), said), (ms, said)
+            self.are_more(said)
+        # once nothing was found stuck, while it looks at what is sent
+        self.choose("shootdown")
+        self.b.js("document.querySelectorAll('#left details')[1].open = true")
+        self.b.click("#ifoutput")
+        self.numbers()
+        ms, said = self.stopped("numbers.some((n, i) => n < numbers[i - 1])")
+        states = re.search(r"[\d,]+", self.explored())[0]
+        assert ms < 300 and said == f"{states} states: nothing is stuck. {rest}", (ms, said)
+        self.b.click("#ifoutput")
+        self.b.js("document.querySelectorAll('#left details')[1].open = false")
+
+    def states_told(self):
+        """Meanwhile the page says that there are more states than so many: never fewer than before, and never as many as there are."""
+        # a Step reads of time what wasn't known, so that the states are looked for anew
+        self.slow("lost-update-fixed", SLOW.replace("700", "30") + "        mfc0    $15, $1\n")
+        self.numbers()
+        said, numbers = self.find(), self.b.js("numbers")
+        assert said.startswith(self.explored()), said
+        assert len(numbers) > 3 and numbers == sorted(numbers), numbers
+        # all states were found, but not all were tried
+        with self.changed("FIRST_STATES = 16", "FIRST_STATES = 1", "ms < 20 ? 2 * n", "ms < 20 ? n"):
+            self.choose("lost-update-fixed")
+            self.numbers()
+            said, numbers = self.find(), self.b.js("numbers")
+            assert said.startswith(self.explored()) and len(numbers) > 500 and numbers[-1] == 526, (said, numbers[-1])
+
+    def numbers(self):
+        """Has the page note how many states it says that there are, while it looks at them."""
+        self.b.js("void (window.numbers = [], new MutationObserver(() => { const it = /^more than ([\\d,]+) states$/.exec($('hunted').textContent); "
+                  "if (it) numbers.push(+it[1].replaceAll(',', '')); }).observe($('hunted'), { childList: true }))")
+
+    def delays(self):
+        """Where there are too many states, runs with few delays are made before the seeds: `s161 search --delays` finds the same, or as many."""
+        self.slow("lost-update")
+        said, wanted = self.find(), self.sought(2)
+        assert said == wanted + " No run with fewer delays is so.", (said, wanted)
+        assert (self.data("found"), self.data("delays"), self.data("stop")) == ("stuck", "11", "stuck") and f"after {int(self.data('events')):,} events" in wanted
+        assert self.b.js("$('order').value") == "schedule"
+        self.slow("lost-update-fixed")
+        said = self.find_by_few()
+        assert " events nothing goes wrong. None of" in said and "none went wrong" in said, said
+        self.are_more(said), self.are_sought(said)
+
+    def delays_stopped(self):
+        """The search stops at once in the middle of the delays, by a key, and says of no more runs than were made."""
+        with self.unexplored():
+            self.slow("lost-update-fixed")
+            ms, said = self.stopped("/^\\d,?\\d\\d\\d runs with few delays/.test($('hunted').textContent)")
+            assert ms < 500 and "(stopped)" in said and "0 seeds tried" in said, (ms, said)
+            self.are_more(said), self.are_sought(said)
+
+    def exploring_stopped(self):
+        """The search stops at once in the middle of all states, by a key, and says nothing that wasn't looked at."""
+        found, rest = "/^more than \\d\\d,?\\d\\d\\d states/.test($('hunted').textContent)", "0 seeds tried, none went wrong (stopped). That is no proof: another order may."
+        self.slow("lost-update-fixed")
+        ms, said = self.stopped(found)
+        assert ms < 300 and re.fullmatch(r"There are more than [\d,]+ states\. " + re.escape(rest), said), (ms, said)
+        self.are_more(said)
+        # while it looks up to how many events nothing goes wrong: as if that took more states than the first look
+        with self.changed("EXPLORE_MS = 6000", "EXPLORE_MS = 100", "this.more >> 3", "MOST_STATES"):
+            self.slow("lost-update-fixed")
+            ms, said = self.stopped(found, "$('hunt').textContent === 'Stop the search' && performance.now() > (window.later ??= performance.now() + 1000)")
+            assert ms < 300 and re.fullmatch(r"There are more than [\d,]+ states\. " + re.escape(rest), said), (ms, said)
+            self.are_more(said)
+        # once nothing was found stuck, while it looks at what is sent
+        self.choose("shootdown")
+        self.b.js("document.querySelectorAll('#left details')[1].open = true")
+        self.b.click("#ifoutput")
+        self.numbers()
+        ms, said = self.stopped("numbers.some((n, i) => n < numbers[i - 1])")
+        states = re.search(r"[\d,]+", self.explored())[0]
+        assert ms < 300 and said == f"{states} states: nothing is stuck. {rest}", (ms, said)
+        self.b.click("#ifoutput")
+        self.b.js("document.querySelectorAll('#left details')[1].open = false")
+
+    def looked_for_anew(self):
+        """Where a Step reads of time what wasn't known, the states are looked for anew; the page goes on saying how many there are at least."""
+        self.slow("lost-update-fixed", SLOW.replace("700", "30") + "        mfc0    $15, $1\n")
+        self.numbers()
+        said, numbers = self.find(), self.b.js("numbers")
+        assert len(numbers) > 3 and numbers == sorted(numbers), numbers
+        assert said.startswith(self.explored()), said
 
     def labs_by_delays(self):
         """Each lab that isn't explored is found by the delays by which the program finds it; of a fixed one as many runs are right."""
@@ -799,7 +930,7 @@ class Page:
         assert not thrown, thrown[:1]
 
 
-USES = ["opens", "document", "contrast", "keys", "buttons", "machines_own", "by_hand", "faults", "spins", "orders", "labs", "delays", "delays_stopped", "labs_by_delays", "delays_by_rules", "as_found", "rules", "busy", "watch", "typed", "kernel_in_c", "link_and_file",
+USES = ["opens", "document", "contrast", "keys", "buttons", "machines_own", "by_hand", "faults", "spins", "orders", "labs", "exploring_stopped", "states_told", "delays", "delays_stopped", "labs_by_delays", "delays_by_rules", "as_found", "rules", "busy", "watch", "typed", "kernel_in_c", "link_and_file",
         "exports", "small_trace", "many_lines", "trap", "refused_memory", "without_machine", "narrow", "projector", "by_keyboard", "quiet"]
 
 

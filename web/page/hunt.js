@@ -26,7 +26,7 @@ async function hunt(from = 0) {
             if (!run.file || run.base.source !== s.source) run.symbols = readElf(file).symbols;
             const plan = { ...planOf({ ...s, order: orderOf(s) }) }, asked = rules();
             const got = await machine.call('hunt', { file, size: sizeOf(s), plan, keys: keysOf(s), limit: s.limit, rules: asked, from, most: from + SEEDS },
-                ({ tried, states, runs }) => sayHunt(states ? `more than ${count(states)} states` : runs ? `${count(runs)} runs with few delays` : `${count(from + tried)} seeds tried`));
+                ({ tried, states, runs }) => sayHunt(states !== undefined ? `more than ${count(states)} states` : runs ? `${count(runs)} runs with few delays` : `${count(from + tried)} seeds tried`));
             hunted = from + (got.tried || 0);
             if (got.first) await showFirst(s, got); else if (got.delays) await showDelayed(s, got); else if (got.bad) await showFound(s, got); else if (got.right) sayRight(got); else sayNone(s, asked, got);
         }
@@ -56,12 +56,17 @@ function sayRuns({ most, within, runs, cut }, limit) {
     return `${count(runs)} run${runs === 1 ? '' : 's'} by turns with at most ${most === 1 ? 'one delay' : 'two delays'}${within < limit ? ` at the first ${count(within)} choices` : ''}`
         + (cut ? ` (${count(cut)} of them cut after ${count(limit)} events)` : '');
 }
+// What is known of the states, where not all were looked at; `unstuck`: how many there are where no output is asked for, none of them stuck.
+function sayStates({ more, events, unstuck }, nothing) {
+    if (events !== undefined) return `There are more than ${count(more)} states, too many to look at all here; up to ${count(events)} events ${nothing}. `;
+    return unstuck ? `${count(unstuck)} states: nothing is stuck. ` : `There are more than ${count(more)} states. `;
+}
 function sayNone({ limit }, asked, { stopped, open, few, states }) {
     const more = hunted ? ` <button data-hunt="${hunted}">Try ${count(SEEDS)} more</button>` : '';
     const nothing = asked.output !== null && open && !open.asked ? 'nothing is stuck' : asked.word ? 'nothing but the word can go wrong' : 'nothing goes wrong';
     const [one, two] = few.map(it => sayRuns(it, limit));
     const runs = one ? `${asked.word ? 'The word aside, none' : 'None'} of ${one} goes wrong${two ? `, and none of ${two}` : ''}. ` : '';
-    const closed = open ? `There are more than ${count(open.limit)} states, too many to look at all here; up to ${count(open.events)} events ${nothing}. ${runs}` : states ? `${count(states)} states: nothing but the word can go wrong. ` : '';
+    const closed = open ? sayStates(open, nothing) + runs : states ? `${count(states)} states: nothing but the word can go wrong. ` : '';
     sayHunt(`${closed}<b>${count(hunted)} seeds tried, none went wrong</b>${stopped ? ' (stopped)' : ''}. That is no proof: another order may.${more}`);
 }
 // Shows the run of these blocks, which goes on in turns, and puts its schedule in place.

@@ -1,9 +1,9 @@
 // The module's exports as calls of JavaScript; c/talusdish.h says what each one does. Addresses, lengths and numbers of 64 bits are
 // BigInts at the border, and nowhere above it. This file is read by the page's worker, and by node in tests/web.
 'use strict';
-const OK = 0, OFF = 16, STUCK = 17, ALL_RIGHT = 21, BAD = 253, NO_MEMORY = 254, NOTHING = 255;
+const OK = 0, OFF = 16, STUCK = 17, ALL_RIGHT = 21, MORE = 25, BAD = 253, NO_MEMORY = 254, NOTHING = 255;
 const TURNS = 0, RANDOM = 1, PRIORITIES = 2, NEVER = 0xffffffff;
-const CLEAN = 0, FOUND = 1, HUNG = 2, OPEN = 3;
+const CLEAN = 0, FOUND = 1, HUNG = 2, OPEN = 3, UNFINISHED = 4;
 const VERDICTS = ['', 'stale', 'reached', 'conflict', 'stuck', 'output', 'end', 'hung'];
 const REFUSALS = { 1: 'BadProcessor', 2: 'Off', 4: 'KeyFull', 5: 'NothingSent', 6: 'NoMemory', 8: 'Worn', 16: 'off', 17: 'stuck', 18: 'NoTurn',
     19: 'NoStretch', 20: 'TooManyChanges', 253: 'Bad', 254: 'out of memory', 255: 'no machine' };
@@ -111,10 +111,14 @@ class Session {
             this.call('search', this.plan(plan), at, size, BigInt(n), BigInt(count), BigInt(goal), this.place) & 255);
         return { answer, right: this.many() };
     }
-    // Every state from the boot on, if they are no more than the limit. Without an output null; the events of a list are the session's bytes.
-    explore(limit, keys, output) {
-        const answer = this.module.lend(keys, (at, n) => this.module.lend(output || new Uint8Array(0), (sent, m) =>
-            this.call('explore', limit, at, n, this.place, 0n, this.place, 0n, output ? 1 : 0, sent, m, this.place) & 255)), v = this.module.told();
+    // Begins to look at every state from the boot on, as long as they are no more than the limit. Without an output null.
+    beginToExplore(limit, keys, output) {
+        return this.module.lend(keys, (at, n) => this.module.lend(output || new Uint8Array(0), (sent, m) =>
+            this.call('explore_begin', limit, at, n, this.place, 0n, this.place, 0n, output ? 1 : 0, sent, m) & 255));
+    }
+    // Goes on with that: tries all events of so many states more. The events of a list that is found are the session's bytes.
+    exploreOn(number) {
+        const answer = this.call('explore_slice', number, this.place) & 255, v = this.module.told();
         return { answer, kind: v.getUint32(0, true), states: v.getUint32(4, true), events: Number(v.getBigUint64(8, true)), verdict: VERDICTS[v.getUint32(16, true)] };
     }
     // A slice of the runs by turns in which a ready processor is passed over at most `most` times, at choices of which none comes before `from`

@@ -219,8 +219,16 @@ function blocksNamed(numbers, processors, keys) {
 }
 
 const EXPLORE_MS = 6000, MOST_STATES = 1 << 20; // how long and how far is explored, before the delays
+const FIRST_STATES = 16; // of the first slice
 // For how long delays are tried, before the seeds: in turns of so many Steps, and in slices of so many events at most.
 const DELAYS_MS = 4000, DELAYED_TURNS = 50, SLICE_EVENTS = 500000, FIRST_CHOICES = 16, FEW_STATES = 2000;
+
+// How much the next slice does, so that one takes some 20 to 40 ms.
+const adapted = (n, ms) => ms < 20 ? 2 * n : ms > 40 ? Math.max(1, n >> 1) : n;
+function check(answer) {
+    if (answer === NO_MEMORY) throw new OutOfMemory();
+    if (answer !== OK && answer !== MORE) throw new Refused(REFUSALS[answer]);
+}
 
 class Hunt {
     constructor({ file, size, plan, keys, limit, rules, from, most }, tell) {
@@ -231,35 +239,47 @@ class Hunt {
     get isOn() { return this.id === hunting; }
     again() { if (this.base.copyTo(this.tried) !== OK) throw new OutOfMemory(); }
     try(plan) { this.again(); return judged(this.rules, this.tried, this.tried.drive(plan, this.keys, this.limit).answer); }
-    // All states, up to twice as many each time, as long as the next try fits the time.
-    async exploreFor(output) {
-        for (let limit = 512, until = performance.now() + EXPLORE_MS; ; limit *= 2) {
-            const start = performance.now(), found = this.base.explore(limit, this.keys, output);
-            if (found.answer === NO_MEMORY) throw new OutOfMemory();
-            if (found.answer !== OK) throw new Refused(REFUSALS[found.answer]);
-            const end = performance.now();
-            if (found.kind !== OPEN || !this.isOn || limit >= MOST_STATES || end + 3 * (end - start) > until) return { ...found, limit, asked: output !== null };
-            this.tell({ states: limit });
+    // All states, in slices, until there is an answer, the time is over, or it is stopped. What was found may be all that there are: so there are
+    // `more` than one less. Where a Step reads of time what wasn't known, they are looked for anew, from one on.
+    async states(limit, output, until) {
+        check(this.base.beginToExplore(limit, this.keys, output));
+        let number = FIRST_STATES;
+        do {
+            const start = performance.now(), found = this.base.exploreOn(number), ms = performance.now() - start;
+            check(found.answer);
+            if (found.kind !== UNFINISHED) return found;
+            if (found.states > 1) number = adapted(number, ms);
+            this.more = Math.max(this.more, found.states - 1);
+            this.tell({ states: this.more });
             await breathe();
-        }
+        } while (this.isOn && performance.now() < until);
+        return { kind: UNFINISHED };
     }
-    // What that says of the rules: what goes wrong; or that nothing does, of the rules that an exploration can judge; or that it is open. A
-    // run that is stuck excuses its output there, so output is asked for once nothing is stuck. null where a run may be stuck.
+    // The same for some seconds. Where these are too few, an eighth of the states tells up to how many events nothing goes wrong.
+    async exploreFor(output) {
+        this.more = 0;
+        let found = await this.states(MOST_STATES, output, performance.now() + EXPLORE_MS);
+        if (found.kind === OPEN) this.more = MOST_STATES;
+        if (found.kind === UNFINISHED && this.isOn) found = await this.states(Math.max(1, this.more >> 3), output, Infinity);
+        return { ...found, more: this.more, asked: output !== null };
+    }
+    // What that says of the rules: what goes wrong; or that nothing does, of the rules that an exploration can judge; or that it is open, or
+    // unfinished. A run that is stuck excuses its output there, so output is asked for once nothing is stuck, of so many states. null where a
+    // run may be stuck.
     async explore() {
         if (!this.rules.stuck) return null;
         const isRight = ({ kind }) => kind === CLEAN || kind === HUNG && !this.rules.end;
         let found = await this.exploreFor(null);
-        if (isRight(found) && this.output) found = await this.exploreFor(this.output);
+        if (isRight(found) && this.output) found = { ...await this.exploreFor(this.output), unstuck: found.states };
         if (isRight(found)) return { ...found, kind: CLEAN, ends: found.kind === CLEAN };
-        if (found.kind !== OPEN) found.blocks = blocksNamed(this.base.read(), this.processors, this.keys);
+        if (found.kind === FOUND || found.kind === HUNG) found.blocks = blocksNamed(this.base.read(), this.processors, this.keys);
         return found;
     }
     // A slice of the runs by turns with these delays.
     slice(lists, first, runs, hung, output) {
         const plan = { kind: TURNS, turns: DELAYED_TURNS, transfer: this.plan.transfer, gap: this.plan.gap };
         const found = this.base.slice(this.file, plan, lists, first, runs, this.limit, hung, this.keys, output);
-        if (found.answer === NO_MEMORY) throw new OutOfMemory();
-        if (found.answer !== OK) throw new Refused(REFUSALS[found.answer]);
+        check(found.answer);
         return found;
     }
     // (A run that was cut isn't off. The search calls that wrong only where an output is asked for.)
@@ -284,7 +304,7 @@ class Hunt {
             if (this.isWrongSlice(found)) return this.firstWrong(lists, next, most, output);
             next = found.next; runs += found.runs; cut += found.cut; this.delayedRuns += found.runs;
             this.tell({ runs: this.delayedRuns });
-            most = Math.max(1, Math.min(longest, ms < 20 ? 2 * most : ms > 40 ? most >> 1 : most));
+            most = Math.min(longest, adapted(most, ms));
         }
         return { ...lists, runs, cut, next };
     }
@@ -349,7 +369,7 @@ class Hunt {
         if (explored && (explored.kind === FOUND || explored.kind === HUNG)) return this.first(explored);
         const right = explored && explored.kind === CLEAN;
         if (right && !this.rules.word) return { right: explored.states, ends: explored.ends, tried: 0 };
-        const open = explored && explored.kind === OPEN ? explored : null, delayed = open && this.isOn ? await this.delays() : null;
+        const open = explored && !right ? explored : null, delayed = open && this.isOn ? await this.delays() : null;
         if (delayed && delayed.verdict) return this.delayed(delayed);
         await this.seeds();
         const answer = { tried: this.seed - this.from, stopped: !this.isOn, bad: this.bad, open, few: delayed ? delayed.right : [], states: right ? explored.states : 0 };
