@@ -212,12 +212,12 @@ class Page:
         return f"After {lengths(lines[3:]):,} events: {WRONG[verdict]}. No shorter run is so; {number:,} states {'in all' if verdict == 'hung' else 'come before it'}."
 
     def are_more(self, said, words=()):
-        """There are more states than the page says, and up to so many events nothing goes wrong: so says the program of an eighth as many."""
+        """There are more states than the page says, and up to so many events nothing goes wrong: so says the program of a quarter as many."""
         more, events = re.match(r"There are more than ([\d,]+) states(?:, too many to look at all here; up to ([\d,]+) events|\.) ", said).groups()
         number = int(more.replace(",", ""))
         assert self.explored(number, words).startswith(f"There are more than {more} states"), said
         if events:
-            few = number if number in (512, 1 << 20) else number >> 3
+            few = number if number in (512, 1 << 20) else number >> 2
             assert self.explored(few, words) == f"There are more than {few:,} states, too many to look at all here; up to {events} events", said
 
     def press(self, keys):
@@ -445,7 +445,7 @@ class Page:
         assert ms < 300 and re.fullmatch(r"There are more than [\d,]+ states\. " + re.escape(rest), said), (ms, said)
         self.are_more(said)
         # while it looks up to how many events nothing goes wrong: as if that took more states than the first look
-        with self.changed("EXPLORE_MS = 6000", "EXPLORE_MS = 100", "this.more >> 3", "MOST_STATES"):
+        with self.changed("EXPLORE_MS = 6000", "EXPLORE_MS = 100", "this.more >> 2", "MOST_STATES"):
             self.slow("lost-update-fixed")
             ms, said = self.stopped(found, "$('hunt').textContent === 'Stop the search' && performance.now() > (window.later ??= performance.now() + 1000)")
             assert ms < 300 and re.fullmatch(r"There are more than [\d,]+ states\. " + re.escape(rest), said), (ms, said)
@@ -509,7 +509,7 @@ class Page:
         assert ms < 300 and re.fullmatch(r"There are more than [\d,]+ states\. " + re.escape(rest), said), (ms, said)
         self.are_more(said)
         # while it looks up to how many events nothing goes wrong: as if that took more states than the first look
-        with self.changed("EXPLORE_MS = 6000", "EXPLORE_MS = 100", "this.more >> 3", "MOST_STATES"):
+        with self.changed("EXPLORE_MS = 6000", "EXPLORE_MS = 100", "this.more >> 2", "MOST_STATES"):
             self.slow("lost-update-fixed")
             ms, said = self.stopped(found, "$('hunt').textContent === 'Stop the search' && performance.now() > (window.later ??= performance.now() + 1000)")
             assert ms < 300 and re.fullmatch(r"There are more than [\d,]+ states\. " + re.escape(rest), said), (ms, said)

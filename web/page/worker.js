@@ -255,12 +255,12 @@ class Hunt {
         } while (this.isOn && performance.now() < until);
         return { kind: UNFINISHED };
     }
-    // The same for some seconds. Where these are too few, an eighth of the states tells up to how many events nothing goes wrong.
+    // The same for some seconds. Where these are too few, a quarter of the states tells up to how many events nothing goes wrong.
     async exploreFor(output) {
         this.more = 0;
         let found = await this.states(MOST_STATES, output, performance.now() + EXPLORE_MS);
         if (found.kind === OPEN) this.more = MOST_STATES;
-        if (found.kind === UNFINISHED && this.isOn) found = await this.states(Math.max(1, this.more >> 3), output, Infinity);
+        if (found.kind === UNFINISHED && this.isOn) found = await this.states(Math.max(1, this.more >> 2), output, Infinity);
         return { ...found, more: this.more, asked: output !== null };
     }
     // What that says of the rules: what goes wrong; or that nothing does, of the rules that an exploration can judge; or that it is open, or
