@@ -46,7 +46,8 @@ def examples():
 
 
 def joined(names):
-    return "".join((HERE / "page" / name).read_text() for name in names)
+    """The parts, one behind the other, without the lines that are a comment."""
+    return re.sub(r"^ *// .*\n", "", "".join((HERE / "page" / name).read_text() for name in names), flags=re.M)
 
 
 def page(module, made):
