@@ -3,8 +3,7 @@
 ghost use Rattle.std.specs.Prelude.{◌≡◌, ◌<◌, ℕ, IfErr, IfOk, option_map};
 ghost use Rattle.m161_judge.specs.Judge.{bytes_of};
 ghost use Rattle.m161_machine.specs.History.{boot_state};
-ghost use Rattle.m161_reach.specs.Exploring.{IsExploring};
-ghost use Rattle.m161_reach.specs.Reach.{CanBeAsked, IsAtBoot};
+ghost use Rattle.m161_reach.specs.Reach.{IsAtBoot};
 ghost use Rattle.m161_c.specs.Begun.{IsOf, unfinished};
 ghost use Rattle.m161_c.specs.Explores.{BeginsAs, SlicesAs};
 ghost use Rattle.m161_c.specs.Explored.{AreAllGood, IsRefused, IsUnexplored, criteria_of};
