@@ -1,4 +1,4 @@
-use Rattle.std.proofs.Common.{◌≡◌, ◌∙◌, refl, ap, ℕ, List, Option, None, Some, Ok, Err}
+use Rattle.std.proofs.Common.{Bool, ◌≡◌, ◌∙◌, refl, ap, ℕ, List, Option, None, Some, Ok, Err}
 use Rattle.std.specs.Prelude.{◌&&◌, not, if◌then◌else◌}
 use Rattle.m161_isa.specs.declared.table.Row.{Row}
 use Rattle.m161_isa.specs.Table.{table, row_that_fits, numbers_of}
@@ -13,7 +13,8 @@ use Rattle.m161_cpu.specs.Scene.{Scene}
 use Rattle.m161_cpu.specs.Translation.{is_misaddressed, physical_at}
 use Rattle.m161_cpu.specs.Effect.{with_three}
 use Rattle.m161_cpu.specs.Step.{executable_word, lines_in}
-use Rattle.m161_cpu.specs.Uses.{fetch_of, fetches, reference_after, reference_by_row, reference_of, reference_of_step, rests_in, uses_of, via_of, via_reference}
+use Rattle.m161_cpu.specs.Resting.{rests_in}
+use Rattle.m161_cpu.specs.Uses.{fetch_of, fetches, reference_after, reference_by_row, reference_of, reference_of_step, uses_of, via_of, via_reference}
 use Rattle.m161_alike.specs.declared.reads.Reads.{Reads}
 use Rattle.m161_alike.specs.Reads.{AreWithin, no_reads, reads_after, reads_of_step}
 use Rattle.m161_alike.specs.View.{processor_view}
@@ -25,13 +26,16 @@ use Rattle.m161_alike.proofs.TimelessStep.{same_arguments, same_reads, same_word
 -- What a Step would fetch, use and read is the same whatever time it is, and whatever the console has
 -- sent.
 
-rests_heard : (sent : List ℕ) (st : ProcessorState) (s : Scene) → rests_in st (heard sent s) ≡ rests_in st s
+abbrev is_pending_in : Scene → Bool
+is_pending_in s = is_pending (lines_in s) s.processor.control
+
+rests_heard : (sent : List ℕ) (st : ProcessorState) (s : Scene) → rests_in st (is_pending_in (heard sent s)) ≡ rests_in st (is_pending_in s)
 unfolding interrupt_lines
 rests_heard sent Stopped s = refl
 rests_heard sent Running s = refl
 rests_heard sent Waiting s = refl
 
-rests_timeless : (k : Reads) (st : ProcessorState) (s : Scene) → rests_in st (timeless k s) ≡ rests_in st s
+rests_timeless : (k : Reads) (st : ProcessorState) (s : Scene) → rests_in st (is_pending_in (timeless k s)) ≡ rests_in st (is_pending_in s)
 unfolding is_pending
 rests_timeless k Stopped s = refl
 rests_timeless k Running s = refl

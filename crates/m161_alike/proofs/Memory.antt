@@ -69,7 +69,7 @@ block_unchanged boot memory place same i less =
 -- the law
 
 -- words from place i on
-abbrev changes : List ℕ → List ℕ → ℕ → ℕ → List ℕ
+abbrev pub changes : List ℕ → List ℕ → ℕ → ℕ → List ℕ
 changes boot m i n = flat_map (λ j. word_change boot m (4 * j)) (range_with_len i n)
 
 -- the first address is that of a place from i on
@@ -120,7 +120,7 @@ first_same boot a b i n e =
     (word_at a (4 * i)) (word_at b (4 * i)) (changes boot a (i + 1) n) (changes boot b (i + 1) n) refl refl
     (begins boot a (i + 1) n) (begins boot b (i + 1) n) e
 
-same_words : (boot a b : List ℕ) (i n k : ℕ) → changes boot a i n ≡ changes boot b i n → k < n →
+pub same_words : (boot a b : List ℕ) (i n k : ℕ) → changes boot a i n ≡ changes boot b i n → k < n →
     word_at a (4 * (i + k)) ≡ word_at b (4 * (i + k))
 same_words boot a b i zero k e below = absurd (let bad : ⊥ = omega (arith, below) in bad)
 same_words boot a b i (suc n) zero e below =
@@ -132,18 +132,18 @@ same_words boot a b i (suc n) (suc k) e below =
     subst (λ j. word_at a (4 * j) ≡ word_at b (4 * j)) there (same_words boot a b (i + 1) n k (first_same boot a b i n e).1 left)
 
 -- the bytes of a word
-same_bytes : (a0 a1 a2 a3 b0 b1 b2 b3 : ℕ) → a0 < 256 → a1 < 256 → a2 < 256 → a3 < 256 → b0 < 256 → b1 < 256 → b2 < 256 → b3 < 256 →
+pub same_bytes : (a0 a1 a2 a3 b0 b1 b2 b3 : ℕ) → a1 < 256 → a2 < 256 → a3 < 256 → b1 < 256 → b2 < 256 → b3 < 256 →
     a0 * 2 ^ 24 + a1 * 2 ^ 16 + a2 * 2 ^ 8 + a3 ≡ b0 * 2 ^ 24 + b1 * 2 ^ 16 + b2 * 2 ^ 8 + b3 →
     (a0 ≡ b0) × (a1 ≡ b1) × (a2 ≡ b2) × (a3 ≡ b3)
-same_bytes a0 a1 a2 a3 b0 b1 b2 b3 h0 h1 h2 h3 k0 k1 k2 k3 e = (
-  omega (arith, h0, h1, h2, h3, k0, k1, k2, k3, e),
-  omega (arith, h0, h1, h2, h3, k0, k1, k2, k3, e),
-  omega (arith, h0, h1, h2, h3, k0, k1, k2, k3, e),
-  omega (arith, h0, h1, h2, h3, k0, k1, k2, k3, e),
+same_bytes a0 a1 a2 a3 b0 b1 b2 b3 h1 h2 h3 k1 k2 k3 e = (
+  omega (arith, h1, h2, h3, k1, k2, k3, e),
+  omega (arith, h1, h2, h3, k1, k2, k3, e),
+  omega (arith, h1, h2, h3, k1, k2, k3, e),
+  omega (arith, h1, h2, h3, k1, k2, k3, e),
 )
 
 -- the four bytes at a place
-SamePlace : List ℕ → List ℕ → ℕ → Type 0
+pub SamePlace : List ℕ → List ℕ → ℕ → Type 0
 SamePlace a b k =
     (get_or a (4 * k) 0 ≡ get_or b (4 * k) 0) × (get_or a (4 * k + 1) 0 ≡ get_or b (4 * k + 1) 0)
     × (get_or a (4 * k + 2) 0 ≡ get_or b (4 * k + 2) 0) × (get_or a (4 * k + 3) 0 ≡ get_or b (4 * k + 3) 0)
@@ -152,19 +152,17 @@ place_same : (a b : List ℕ) → AreBytes a → AreBytes b → length a ≡ len
     word_at a (4 * k) ≡ word_at b (4 * k) → SamePlace a b k
 unfolding SamePlace
 place_same a b p q size k below e =
-    let a0 : 4 * k < length a = omega (arith, below) in
     let a1 : 4 * k + 1 < length a = omega (arith, below) in
     let a2 : 4 * k + 2 < length a = omega (arith, below) in
-    let b0 : 4 * k < length b = omega (arith, below, size) in
     let b1 : 4 * k + 1 < length b = omega (arith, below, size) in
     let b2 : 4 * k + 2 < length b = omega (arith, below, size) in
     let b3 : 4 * k + 3 < length b = omega (arith, below, size) in
     same_bytes (get_or a (4 * k) 0) (get_or a (4 * k + 1) 0) (get_or a (4 * k + 2) 0) (get_or a (4 * k + 3) 0)
     (get_or b (4 * k) 0) (get_or b (4 * k + 1) 0) (get_or b (4 * k + 2) 0) (get_or b (4 * k + 3) 0)
-    (p.0 (4 * k) 0 a0) (p.0 (4 * k + 1) 0 a1) (p.0 (4 * k + 2) 0 a2) (p.0 (4 * k + 3) 0 below)
-    (q.0 (4 * k) 0 b0) (q.0 (4 * k + 1) 0 b1) (q.0 (4 * k + 2) 0 b2) (q.0 (4 * k + 3) 0 b3) e
+    (p.0 (4 * k + 1) 0 a1) (p.0 (4 * k + 2) 0 a2) (p.0 (4 * k + 3) 0 below)
+    (q.0 (4 * k + 1) 0 b1) (q.0 (4 * k + 2) 0 b2) (q.0 (4 * k + 3) 0 b3) e
 
-by_rest : (a b : List ℕ) (k r i : ℕ) → r < 4 → i ≡ 4 * k + r → SamePlace a b k → get_or a i 0 ≡ get_or b i 0
+pub by_rest : (a b : List ℕ) (k r i : ℕ) → r < 4 → i ≡ 4 * k + r → SamePlace a b k → get_or a i 0 ≡ get_or b i 0
 unfolding SamePlace
 by_rest a b k zero i small is h =
     let here : i ≡ 4 * k = omega (arith, is) in subst (λ j. get_or a j 0 ≡ get_or b j 0) (sym here) h.0

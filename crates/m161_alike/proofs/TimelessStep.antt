@@ -18,7 +18,8 @@ use Rattle.m161_cpu.specs.Scene.{Scene, Change, and_then, apply_part, around_aft
 use Rattle.m161_cpu.specs.Translation.{is_misaddressed, physical_at}
 use Rattle.m161_cpu.specs.Effect.{Argument, arguments, effect_of, value_of, with_three}
 use Rattle.m161_cpu.specs.Step.{Stepped, change_by_row, change_in, change_of_step, conflict_of, count_step, executable_word, idle, lines_in, off_after, outcome_after, running_step, step_by_conflict, step_by_state, step_of, step_of_change, step_of_fault, step_of_result, switches_off, tick, with_processor, without_link, without_row}
-use Rattle.m161_cpu.specs.Uses.{fetches, rests_in}
+use Rattle.m161_cpu.specs.Resting.{rests_in}
+use Rattle.m161_cpu.specs.Uses.{fetches}
 use Rattle.m161_alike.specs.declared.reads.Reads.{Reads}
 use Rattle.m161_alike.specs.Reads.{AreWithin, no_reads, reads_after, reads_by_row, reads_of, reads_of_step}
 use Rattle.m161_alike.specs.View.{control_view, processor_view}
@@ -250,7 +251,7 @@ same_reads p q registers pc (Err f) = refl
 
 runs_within : (k : Reads) (s : Scene) → s.processor.state ≡ Running → AreWithin (reads_of_step s) k → RunsWithin k s
 runs_within k s running within = λ h.
-    let fetching : fetches s ≡ true = ap (λ st. not (rests_in st s) && not (is_interrupted (lines_in s) s.processor.control)) running ∙ ap not h in
+    let fetching : fetches s ≡ true = ap (λ st. not (rests_in st (is_pending (lines_in s) s.processor.control)) && not (is_interrupted (lines_in s) s.processor.control)) running ∙ ap not h in
     subst (λ r. AreWithin r k) (reads_if s true fetching) within
 
 -- a waiting processor that an interrupt wakes reads what it would if it were running
@@ -261,7 +262,8 @@ awake_word memory p = refl
 wakes_within : (k : Reads) (s : Scene) → s.processor.state ≡ Waiting → is_pending (lines_in s) s.processor.control ≡ true →
     AreWithin (reads_of_step s) k → RunsWithin k (with_processor (with_state Running) s)
 wakes_within k s waiting pending within = λ h.
-    let awake : not (rests_in s.processor.state s) ≡ true = ap (λ st. not (rests_in st s)) waiting ∙ ap (λ x. not (not x)) pending in
+    let awake : not (rests_in s.processor.state (is_pending (lines_in s) s.processor.control)) ≡ true =
+    ap (λ st. not (rests_in st (is_pending (lines_in s) s.processor.control))) waiting ∙ ap (λ x. not (not x)) pending in
     let fetching : fetches s ≡ true = ap (λ x. x && not (is_interrupted (lines_in s) s.processor.control)) awake ∙ ap not h in
     let same : reads_after (with_state Running s.processor) (executable_word s.around.memory (with_state Running s.processor)) ≡ reads_after s.processor (executable_word s.around.memory s.processor) =
     ap (reads_after (with_state Running s.processor)) (awake_word s.around.memory s.processor)

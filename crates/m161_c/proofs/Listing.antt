@@ -35,7 +35,8 @@ use Rattle.m161_c.specs.helpers.Seeking.{Begins}
 use Rattle.m161_c.specs.helpers.Telling.{TellsRun}
 use Rattle.m161_c.specs.Slices.{IsSlicedBy, TellsStop}
 use Rattle.m161_c.proofs.Seeking.{told_made}
-use Rattle.m161_c.proofs.Telling.{begun, booted_as_one}
+use Rattle.m161_machine.proofs.OneBoot.{booted_as_one}
+use Rattle.m161_c.proofs.Telling.{begun}
 
 -- Every list of a class has the run of a useful one.
 

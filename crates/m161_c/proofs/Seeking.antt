@@ -16,7 +16,8 @@ use Rattle.m161_c.specs.Driven.{rules_in}
 use Rattle.m161_c.specs.Seeds.{AreRightTo, Asked, IsToldRun}
 use Rattle.m161_c.specs.helpers.Seeking.{Begins}
 use Rattle.m161_c.specs.helpers.Telling.{AsksEnds, TellsRun}
-use Rattle.m161_c.proofs.Telling.{begun, booted_as_one, tells_run}
+use Rattle.m161_machine.proofs.OneBoot.{booted_as_one}
+use Rattle.m161_c.proofs.Telling.{begun, tells_run}
 
 -- A search by seeds.
 

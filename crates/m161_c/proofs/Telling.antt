@@ -1,10 +1,8 @@
 use Rattle.std.proofs.Common.{◌≡◌, ◌∙◌, ◌⊎◌, inl, inr, refl, ap, sym, subst, ℕ, zero, suc, ◌<◌, arith, Bool, true, false, List, [], ◌∷◌, take, Option, None, Some, Result, Ok, Err}
 use Rattle.std.specs.Prelude.{IfOk, if◌then◌else◌, nat_lt, option_map, slice_get}
 use Rattle.std.proofs.lemmas.Bool.Decides.{nat_tests}
-use Rattle.std.proofs.lemmas.List.{ext_get_or}
 use Rattle.std.proofs.lemmas.Option.{slice_get_within}
 use Rattle.m161_cpu.specs.declared.processor.Outcome.{Outcome}
-use Rattle.m161_elf.specs.Image.{IsImage}
 use Rattle.m161_judge.specs.declared.verdict.Judged.{Judged}
 use Rattle.m161_judge.specs.declared.verdict.Verdict.{Verdict}
 use Rattle.m161_judge.specs.declared.verdict.Verdict.TheVariants.{End}
@@ -16,6 +14,7 @@ use Rattle.m161_machine.specs.declared.event.Event.{Event}
 use Rattle.m161_machine.specs.declared.event.Refusal.{Refusal}
 use Rattle.m161_machine.specs.History.{IsBootState, boot_fault, boot_state}
 use Rattle.m161_machine.specs.State.{State, next}
+use Rattle.m161_machine.proofs.OneBoot.{booted_as_one}
 use Rattle.m161_reach.specs.From.{asked_of, no_time, with_known}
 use Rattle.m161_reach.specs.Hangs.{HangFirst, HangingAreMade, NeverHang}
 use Rattle.m161_reach.specs.Reach.{CanBeAsked, start_in}
@@ -117,22 +116,6 @@ tells_run law true few goal s q events judged told asks h of = tells law few goa
 tells_run law false few goal s q events judged told asks h of = (judged, h, of)
 
 -- States at boot.
-
-same_bytes : (file : List ℕ) (ram a b : ℕ) (xs ys : List ℕ) → IsImage file ram a xs → IsImage file ram b ys → xs ≡ ys
-same_bytes file ram a b xs ys i j =
-    ext_get_or 0 xs ys (i.size_is ∙ sym j.size_is)
-    (λ at less. let here : at < ram = subst (λ n. at < n) i.size_is less in i.bytes_are at here ∙ sym (j.bytes_are at here))
-
--- a file and a size have one
-pub booted_as_one : (file : List ℕ) (conf : Conf) (s t : State) → IsBootState file conf s → IsBootState file conf t → s ≡ t
-booted_as_one file conf s t a b =
-    let same_conf : a.start.conf ≡ b.start.conf = a.conf_is ∙ sym b.conf_is in
-    let same_entry : a.start.entry ≡ b.start.entry = a.image.entry_is ∙ sym b.image.entry_is in
-    let same_memory : a.start.bytes ≡ b.start.bytes =
-    same_bytes file conf.ram a.start.entry b.start.entry a.start.bytes b.start.bytes a.image b.image in
-    a.state_is
-    ∙ (λ i. boot_state (record { bytes = same_memory i; entry = same_entry i; conf = same_conf i }))
-    ∙ sym b.state_is
 
 begun_by : (file : List ℕ) (conf : Conf) (s : State) (fault : Option BootError) → BootsState file conf fault (Ok s) → IsBootState file conf s
 begun_by file conf s (Some first) h = absurd h

@@ -1,8 +1,8 @@
 use Rattle.std.specs.Prelude.{◌≡◌, ℕ, true, false, nat_le, if◌then◌else◌, List, [], map, take, Option, None, Some, Result, Err}
 use Rattle.m161_delays.specs.declared.search.Class.{Class}
 use Rattle.m161_delays.specs.declared.slice.Slice.{Slice}
-use Rattle.m161_delays.specs.declared.slice.Stop.{Stop}
-use Rattle.m161_delays.specs.declared.slice.Stop.TheVariants.{Next, Wrong}
+use Rattle.m161_delays.specs.declared.slice.SliceStop.{SliceStop}
+use Rattle.m161_delays.specs.declared.slice.SliceStop.TheVariants.{Next, Wrong}
 use Rattle.m161_delays.specs.Slices.{IsSlice}
 use Rattle.m161_machine.specs.declared.conf.Conf.{Conf}
 use Rattle.m161_machine.specs.History.{History, IsBootState}
@@ -41,7 +41,7 @@ TellsWrong a numbers wrong found events =
     × (events ≡ map (number_of_event a.conf.processors) (take wrong.told.events wrong.run.events.items))
 
 -- what is told of a slice, by where it stops, and at which list to go on, if at one
-abbrev pub TellsStop : Asked → ℕ → ℕ → Option (Stop WrongRun) → SoughtSlice → List ℕ → Type 0
+abbrev pub TellsStop : Asked → ℕ → ℕ → Option (SliceStop WrongRun) → SoughtSlice → List ℕ → Type 0
 TellsStop a runs cut None told events =
     TellsRight runs cut told.found events × (told.goes_on ≡ false) × (told.next.count ≡ 0)
 TellsStop a runs cut (Some (Wrong delays wrong)) told events =

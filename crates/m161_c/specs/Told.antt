@@ -15,7 +15,8 @@ use Rattle.m161_c.specs.declared.told.Told.{Told}
 use Rattle.m161_c.specs.Judged.{no_judgement}
 use Rattle.m161_c.specs.Verdicts.{no_verdict, run_verdict}
 
--- The verdict of a search: that of a list of events, or that it hangs, which comes before `end`.
+-- The verdict of a search: that of a list of events, or that it hangs, which comes before `end`. (s161_search
+-- says it of a task as well: the library doesn't stand on the program's crates.)
 
 -- by what the states behind a list are looked at: whether they lead to an end, and nothing else
 abbrev pub ends_of : Criteria → Criteria

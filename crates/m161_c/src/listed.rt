@@ -29,7 +29,7 @@ use crate::told::{asked_core, ends_of};
 use crate::verdict::{NONE, search_verdict};
 use crate::{BAD, NO_MEMORY, NOTHING};
 use m161::{Conf, Console, Tlb};
-use m161_delays::{Class, Delays, Searched, Slice, Stop, search_alone, search_slice};
+use m161_delays::{Class, Delays, Searched, Slice, SliceStop, search_alone, search_slice};
 use m161_drive::Order;
 use m161_judge::{Booted, Goal, StepMemory};
 use m161_reach::Machines;
@@ -130,11 +130,11 @@ fn tell_slice(
     let Slice { runs, cut, stop } = slice;
     match stop {
         None => Ok((last_told(right_told(runs, cut)), Vec::new(alloc))),
-        Some(Stop::Wrong { delays, wrong }) => {
+        Some(SliceStop::Wrong { delays, wrong }) => {
             let (found, events) = wrong_told(alloc, task, &delays, wrong)?;
             Ok((last_told(found), events))
         }
-        Some(Stop::Next { delays }) => {
+        Some(SliceStop::Next { delays }) => {
             let told = SoughtSlice {
                 found: right_told(runs, cut),
                 goes_on: true,

@@ -18,7 +18,8 @@ use Rattle.m161_cpu.specs.Fault.{fault}
 use Rattle.m161_cpu.specs.Translation.{physical_at, is_misaddressed}
 use Rattle.m161_cpu.specs.Effect.{Argument, arguments, value_of, with_three, effect_of}
 use Rattle.m161_cpu.specs.Step.{Stepped, step_of_result, step_of_fault, change_of_step, change_by_row, change_in, executable_word, idle, lines_in, running_step, step_by_state, step_of, tick}
-use Rattle.m161_cpu.specs.Uses.{fetches, rests_in}
+use Rattle.m161_cpu.specs.Resting.{rests_in}
+use Rattle.m161_cpu.specs.Uses.{fetches}
 use Rattle.m161_cpu.specs.UsesLaw.{awake}
 use Rattle.m161_cpu.specs.helpers.Uses.{stored_of}
 
@@ -176,7 +177,8 @@ by_waiting s true = by_interrupt s (is_interrupted (lines_in s) s.processor.cont
 by_waiting s false = (inl refl, refl)
 
 by_state : (st : ProcessorState) (s : Scene) → s.processor.state ≡ st →
-    By s (not (rests_in st s) && not (is_interrupted (lines_in s) s.processor.control)) (step_by_state st s)
+    By s (not (rests_in st (is_pending (lines_in s) s.processor.control)) && not (is_interrupted (lines_in s) s.processor.control))
+    (step_by_state st s)
 by_state Stopped s e = (inl refl, refl)
 by_state Running s e =
     subst (λ x. By s (not (is_interrupted (lines_in s) s.processor.control)) (running_step x)) (sym (awake_is s e))

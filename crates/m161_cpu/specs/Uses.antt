@@ -1,4 +1,4 @@
-use Rattle.std.specs.Prelude.{ℕ, ◌/◌, ◌^◌, Bool, true, false, not, ◌&&◌, if◌then◌else◌, List, Option, None, Some, Result, Ok, Err}
+use Rattle.std.specs.Prelude.{ℕ, ◌/◌, ◌^◌, Bool, not, ◌&&◌, if◌then◌else◌, List, Option, None, Some, Result, Ok, Err}
 use Rattle.m161_isa.specs.declared.effect.Effect.{Effect}
 use Rattle.m161_isa.specs.declared.effect.Effect.TheVariants as effect
 use Rattle.m161_isa.specs.declared.table.Row.{Row}
@@ -8,11 +8,10 @@ use Rattle.m161_cpu.specs.declared.fault.Access.{Access}
 use Rattle.m161_cpu.specs.declared.fault.Access.TheVariants.{Fetch, Load, Store}
 use Rattle.m161_cpu.specs.declared.fault.StepFault.{StepFault}
 use Rattle.m161_cpu.specs.declared.translation.Physical.{Physical}
-use Rattle.m161_cpu.specs.declared.processor.ProcessorState.{ProcessorState}
-use Rattle.m161_cpu.specs.declared.processor.ProcessorState.TheVariants.{Stopped, Running, Waiting}
 use Rattle.m161_cpu.specs.declared.uses.Via.{Via}
 use Rattle.m161_cpu.specs.declared.uses.Uses.{Uses}
 use Rattle.m161_cpu.specs.Processor.{Processor}
+use Rattle.m161_cpu.specs.Resting.{rests_in}
 use Rattle.m161_cpu.specs.Scene.{Scene}
 use Rattle.m161_cpu.specs.Translation.{translate}
 use Rattle.m161_cpu.specs.Effect.{Argument, arguments, with_three, effective_address}
@@ -100,16 +99,11 @@ abbrev pub reference_after : Processor → Result ℕ StepFault → Option Refer
 reference_after p (Ok word) = reference_in p word
 reference_after p (Err f) = None
 
--- the processor was never started, or waits and no interrupt is pending
-abbrev pub rests_in : ProcessorState → Scene → Bool
-rests_in Stopped s = true
-rests_in Running s = false
-rests_in Waiting s = not (is_pending (lines_in s) s.processor.control)
-
 -- the Step fetches: it isn't idle, and takes no interrupt
 abbrev pub fetches : Scene → Bool
 fetches s =
-    not (rests_in s.processor.state s) && not (is_interrupted (lines_in s) s.processor.control)
+    not (rests_in s.processor.state (is_pending (lines_in s) s.processor.control))
+    && not (is_interrupted (lines_in s) s.processor.control)
 
 -- the reference of the Step's instruction
 abbrev pub reference_of_step : Scene → Option Reference

@@ -5,8 +5,8 @@ use Rattle.m161_delays.specs.declared.search.Class.{Class}
 use Rattle.m161_delays.specs.declared.search.Searched.{Searched}
 use Rattle.m161_delays.specs.declared.search.Searched.TheVariants as searched
 use Rattle.m161_delays.specs.declared.slice.Slice.{Slice}
-use Rattle.m161_delays.specs.declared.slice.Stop.{Stop}
-use Rattle.m161_delays.specs.declared.slice.Stop.TheVariants.{Next, Wrong}
+use Rattle.m161_delays.specs.declared.slice.SliceStop.{SliceStop}
+use Rattle.m161_delays.specs.declared.slice.SliceStop.TheVariants.{Next, Wrong}
 use Rattle.m161_delays.specs.Search.{Finds}
 use Rattle.m161_delays.specs.Slices.{IsSlice, StopsAt}
 
@@ -32,7 +32,7 @@ finds_as class offers R Q V U (searched.Wrong delays what) f g h = record {
   before = λ others useful order. (let right = h.before others useful order in (right.0, f others right.0 right.1));
 }
 
-stops_as : {W : Type 0} (class : Class) (offers : List ℕ → List ℕ) (V U : List ℕ → W → Type 0) (from : List ℕ) (most runs : ℕ) (o : Option (Stop W)) →
+stops_as : {W : Type 0} (class : Class) (offers : List ℕ → List ℕ) (V U : List ℕ → W → Type 0) (from : List ℕ) (most runs : ℕ) (o : Option (SliceStop W)) →
     ((x : List ℕ) (w : W) → V x w → U x w) → StopsAt class offers V from most runs o → StopsAt class offers U from most runs o
 stops_as class offers V U from most runs None g h = h
 stops_as class offers V U from most runs (Some (Wrong delays what)) g h = (h.0, (h.1.0, g _ what h.1.1))

@@ -6,8 +6,8 @@ use Rattle.m161_jobs.specs.Trials.{AreRight}
 use Rattle.m161_jobs.proofs.Rights.{right_more}
 use Rattle.m161_order.specs.Delays.{delays_of}
 use Rattle.m161_delays.specs.declared.slice.Slice.{Slice}
-use Rattle.m161_delays.specs.declared.slice.Stop.{Stop}
-use Rattle.m161_delays.specs.declared.slice.Stop.TheVariants.{Next, Wrong}
+use Rattle.m161_delays.specs.declared.slice.SliceStop.{SliceStop}
+use Rattle.m161_delays.specs.declared.slice.SliceStop.TheVariants.{Next, Wrong}
 use Rattle.m161_delays.specs.declared.search.Class.{Class}
 use Rattle.m161_delays.specs.Lists.{ComesBefore, IsLess}
 use Rattle.m161_delays.specs.Runs.{AreThose, IsUsefulOf}
@@ -108,24 +108,24 @@ on_from : (class : Class) (offers : List ℕ → List ℕ) (from ds z : List ℕ
 on_from class offers from ds z d h = (h.0, λ earlier. h.1 (before_to z from ds earlier d.1))
 
 -- one that comes before where the first slice stopped comes before where the second one does
-before_stop : {W : Type 0} (class : Class) (offers : List ℕ → List ℕ) (wrong : List ℕ → W → Type 0) (ds z : List ℕ) (most runs : ℕ) (stop : Option (Stop W)) →
+before_stop : {W : Type 0} (class : Class) (offers : List ℕ → List ℕ) (wrong : List ℕ → W → Type 0) (ds z : List ℕ) (most runs : ℕ) (stop : Option (SliceStop W)) →
     StopsAt class offers wrong ds most runs stop → ComesBefore z ds → ComesBeforeStop stop z
 before_stop class offers wrong ds z most runs None h order = tt
 before_stop class offers wrong ds z most runs (Some stop) h order = before_to z ds (delays_of (stopped_at stop)) order h.0.1
 
-split_at : {W : Type 0} (class : Class) (offers : List ℕ → List ℕ) (from ds z : List ℕ) (stop : Option (Stop W)) →
+split_at : {W : Type 0} (class : Class) (offers : List ℕ → List ℕ) (from ds z : List ℕ) (stop : Option (SliceStop W)) →
     IsUsefulFrom class offers from z × ComesBeforeStop stop z → ComesBefore z ds ⊎ (ComesBefore z ds → ⊥) →
     (IsUsefulFrom class offers from z × ComesBefore z ds) ⊎ (IsUsefulFrom class offers ds z × ComesBeforeStop stop z)
 split_at class offers from ds z stop h (inl before) = inl (h.0, before)
 split_at class offers from ds z stop h (inr not) = inr ((h.0.0, not), h.1)
 
-may_more : {W : Type 0} (wrong : List ℕ → W → Type 0) (most more first second : ℕ) (stop : Stop W) → first ≡ most → MayStop wrong more second stop →
+may_more : {W : Type 0} (wrong : List ℕ → W → Type 0) (most more first second : ℕ) (stop : SliceStop W) → first ≡ most → MayStop wrong more second stop →
     MayStop wrong (most + more) (first + second) stop
 may_more wrong most more first second (Wrong delays what) is h = (let less = h.0 in omega (arith, is, less), h.1)
 may_more wrong most more first second (Next delays) is h = omega (arith, is, h)
 
 stops_more : {W : Type 0} (class : Class) (offers : List ℕ → List ℕ) (wrong : List ℕ → W → Type 0) (from ds : List ℕ) (most more first second : ℕ)
-    (stop : Option (Stop W)) → IsUsefulFrom class offers from ds → first ≡ most → StopsAt class offers wrong ds more second stop →
+    (stop : Option (SliceStop W)) → IsUsefulFrom class offers from ds → first ≡ most → StopsAt class offers wrong ds more second stop →
     StopsAt class offers wrong from (most + more) (first + second) stop
 stops_more class offers wrong from ds most more first second None d is h = omega (arith, is, h)
 stops_more class offers wrong from ds most more first second (Some stop) d is h = (
@@ -139,7 +139,7 @@ are_joined {W} class offers right wrong from most more first second = λ delays 
     let ds = delays_of delays in
     let at : IsUsefulFrom class offers from ds × (first.runs ≡ most) = subst (StopsAt class offers wrong from most first.runs) stop h.stops in
     let those : AreThose (λ z. IsUsefulFrom class offers from z × ComesBefore z ds) h.lists =
-    subst (λ (o : Option (Stop W)). AreThose (λ z. IsUsefulFrom class offers from z × ComesBeforeStop o z) h.lists) stop h.are_those in
+    subst (λ (o : Option (SliceStop W)). AreThose (λ z. IsUsefulFrom class offers from z × ComesBeforeStop o z) h.lists) stop h.are_those in
     record {
       lists = h.lists ++ k.lists;
       are_those =
@@ -157,7 +157,7 @@ are_joined {W} class offers right wrong from most more first second = λ delays 
 
 -- from the empty list on
 of_whole : {W : Type 0} (class : Class) (offers : List ℕ → List ℕ) (right : List ℕ → Bool → Type 0) (wrong : List ℕ → W → Type 0) (most runs cut : ℕ)
-    (stop : Option (Stop W)) (lists : List (List ℕ)) → AreThose (λ z. IsUsefulFrom class offers [] z × ComesBeforeStop stop z) lists →
+    (stop : Option (SliceStop W)) (lists : List (List ℕ)) → AreThose (λ z. IsUsefulFrom class offers [] z × ComesBeforeStop stop z) lists →
     AreRight right lists cut → runs ≡ length lists → StopsAt class offers wrong [] most runs stop → FindsWhole class offers right wrong runs cut stop
 of_whole class offers right wrong most runs cut None lists those rights is stops = record {
   lists = lists;

@@ -5,8 +5,8 @@ use Rattle.m161_jobs.specs.Trials.{AreRight}
 use Rattle.m161_jobs.proofs.Rights.{right_few}
 use Rattle.m161_order.specs.declared.delays.Delays.{Delays}
 use Rattle.m161_order.specs.Delays.{delays_of}
-use Rattle.m161_delays.specs.declared.slice.Stop.{Stop}
-use Rattle.m161_delays.specs.declared.slice.Stop.TheVariants.{Next, Wrong}
+use Rattle.m161_delays.specs.declared.slice.SliceStop.{SliceStop}
+use Rattle.m161_delays.specs.declared.slice.SliceStop.TheVariants.{Next, Wrong}
 use Rattle.m161_delays.specs.declared.walk.Sums.{Sums}
 use Rattle.m161_delays.specs.declared.search.Class.{Class}
 use Rattle.m161_delays.specs.Lists.{ComesBefore, IsLess}
@@ -94,7 +94,7 @@ split_before class offers from n z d long h (inr same) =
     let size = same.0 in inr (to_behind class offers from n z (omega (arith, size, long)) h, inr same)
 
 pub from_stop : {W : Type 0} (class : Class) (offers : List ℕ → List ℕ) (right : List ℕ → Bool → Type 0) (wrong : List ℕ → W → Type 0) (from : List ℕ)
-    (n : ℕ) (limit : Option ℕ) (s t u : Sums) (stop : Stop W) → length from ≤ n → AreMade (IsShorterFrom class offers from n) right limit s t →
+    (n : ℕ) (limit : Option ℕ) (s t u : Sums) (stop : SliceStop W) → length from ≤ n → AreMade (IsShorterFrom class offers from n) right limit s t →
     StopsSo (IsBehindFrom class offers [] n (rest_at from n)) right wrong limit t u stop →
     StopsSo (IsUsefulFrom class offers from) right wrong limit s u stop
 from_stop class offers right wrong from n limit s t u stop least made stops =
@@ -134,13 +134,13 @@ rights_in IsSo right most runs cut h =
 some_is : (a b : ℕ) → ◌≡◌ {A = Option ℕ} (Some a) (Some b) → b ≡ a
 some_is a b h = let same : a ≡ b = cc in sym same
 
-may_stop : {W : Type 0} (wrong : List ℕ → W → Type 0) (most runs : ℕ) (stop : Stop W) → runs ≤ most → MayStopIn wrong (Some most) runs stop →
+may_stop : {W : Type 0} (wrong : List ℕ → W → Type 0) (most runs : ℕ) (stop : SliceStop W) → runs ≤ most → MayStopIn wrong (Some most) runs stop →
     MayStop wrong most runs stop
 may_stop wrong most runs (Wrong delays what) few h = (h.0 most refl few, h.1)
 may_stop wrong most runs (Next delays) few h = some_is most runs h
 
 pub is_slice : {W : Type 0} (class : Class) (offers : List ℕ → List ℕ) (right : List ℕ → Bool → Type 0) (wrong : List ℕ → W → Type 0) (from : List ℕ)
-    (most runs cut : ℕ) (stop : Option (Stop W)) →
+    (most runs cut : ℕ) (stop : Option (SliceStop W)) →
     GoesAlong (IsUsefulFrom class offers from) right wrong (Some most) (record { runs = 0; cut = 0 }) (record { runs = runs; cut = cut }) stop →
     IsSlice class offers right wrong from most (record { runs = runs; cut = cut; stop = stop })
 is_slice class offers right wrong from most runs cut None h =

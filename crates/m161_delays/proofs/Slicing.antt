@@ -4,8 +4,8 @@ use Rattle.std.proofs.lemmas.List.{append-nil}
 use Rattle.std.specs.Prelude.{◌==◌, if◌then◌else◌, max, nat_lt, slice_index, Option, None, Some}
 use Rattle.m161_order.specs.declared.delays.Delays.{Delays}
 use Rattle.m161_order.specs.Delays.{delays_of}
-use Rattle.m161_delays.specs.declared.slice.Stop.{Stop}
-use Rattle.m161_delays.specs.declared.slice.Stop.TheVariants.{Next, Wrong}
+use Rattle.m161_delays.specs.declared.slice.SliceStop.{SliceStop}
+use Rattle.m161_delays.specs.declared.slice.SliceStop.TheVariants.{Next, Wrong}
 use Rattle.m161_delays.specs.declared.walk.Sums.{Sums}
 use Rattle.m161_delays.specs.declared.search.Class.{Class}
 use Rattle.m161_delays.specs.Lists.{ComesBefore, IsLess, times}
@@ -165,7 +165,7 @@ split_stop class offers ns rest m k z d order (inl below) = inl below
 split_stop class offers ns rest m k z d order (inr child) = inr (child, order)
 
 pub along_stop : {W : Type 0} (class : Class) (offers : List ℕ → List ℕ) (right : List ℕ → Bool → Type 0) (wrong : List ℕ → W → Type 0)
-    (ns rest : List ℕ) (m k least : ℕ) (limit : Option ℕ) (s t u : Sums) (stop : Stop W) → first_of least rest ≤ k →
+    (ns rest : List ℕ) (m k least : ℕ) (limit : Option ℕ) (s t u : Sums) (stop : SliceStop W) → first_of least rest ≤ k →
     AreMade (IsBelowFrom class offers ns (suc m) rest k) right limit s t →
     StopsSo (IsBehindFrom class offers (ns ++ k ∷ []) m (rest_behind rest k)) right wrong limit t u stop →
     StopsSo (IsBehindFrom class offers ns (suc m) rest) right wrong limit s u stop
@@ -199,7 +199,7 @@ itself_from class offers ns rest more z none useful same = (
 )
 
 pub along_itself : {W : Type 0} (class : Class) (offers : List ℕ → List ℕ) (right : List ℕ → Bool → Type 0) (wrong : List ℕ → W → Type 0)
-    (ns rest : List ℕ) (more : ℕ) (limit : Option ℕ) (s t : Sums) (o : Option (Stop W)) → more ≡ 0 → IsUsefulOf class offers ns →
+    (ns rest : List ℕ) (more : ℕ) (limit : Option ℕ) (s t : Sums) (o : Option (SliceStop W)) → more ≡ 0 → IsUsefulOf class offers ns →
     GoesAlong (λ z. z ≡ ns) right wrong limit s t o → GoesAlong (IsBehindFrom class offers ns more rest) right wrong limit s t o
 along_itself class offers right wrong ns rest more limit s t None none useful h =
     made_same (λ z. z ≡ ns) (IsBehindFrom class offers ns more rest) right limit s t

@@ -3,8 +3,8 @@ use Rattle.m161_order.specs.declared.delays.Delays.{Delays}
 use Rattle.m161_order.specs.Delays.{delays_of}
 use Rattle.m161_delays.specs.declared.search.Class.{Class}
 use Rattle.m161_delays.specs.declared.slice.Slice.{Slice}
-use Rattle.m161_delays.specs.declared.slice.Stop.{Stop}
-use Rattle.m161_delays.specs.declared.slice.Stop.TheVariants.{Next, Wrong}
+use Rattle.m161_delays.specs.declared.slice.SliceStop.{SliceStop}
+use Rattle.m161_delays.specs.declared.slice.SliceStop.TheVariants.{Next, Wrong}
 use Rattle.m161_delays.specs.Lists.{ComesBefore}
 use Rattle.m161_delays.specs.Runs.{AreThose, IsUsefulOf}
 use Rattle.m161_delays.specs.Search.{AreClean, IsFirst}
@@ -17,23 +17,23 @@ abbrev pub IsUsefulFrom : Class → (List ℕ → List ℕ) → List ℕ → Lis
 IsUsefulFrom class offers from numbers = IsUsefulOf class offers numbers × (ComesBefore numbers from → ⊥)
 
 -- the list at which a slice stops
-abbrev pub stopped_at : {W : Type 0} → Stop W → Delays
+abbrev pub stopped_at : {W : Type 0} → SliceStop W → Delays
 stopped_at (Wrong delays what) = delays
 stopped_at (Next delays) = delays
 
 -- a list comes before the one at which a slice stops, if it stops at one
-abbrev pub ComesBeforeStop : {W : Type 0} → Option (Stop W) → List ℕ → Type 0
+abbrev pub ComesBeforeStop : {W : Type 0} → Option (SliceStop W) → List ℕ → Type 0
 ComesBeforeStop None numbers = Unit {0}
 ComesBeforeStop (Some stop) numbers = ComesBefore numbers (delays_of (stopped_at stop))
 
 -- why a slice of at most so many runs stops behind so many: this list's run is wrong, or it may make no more
-abbrev pub MayStop : {W : Type 0} → (List ℕ → W → Type 0) → ℕ → ℕ → Stop W → Type 0
+abbrev pub MayStop : {W : Type 0} → (List ℕ → W → Type 0) → ℕ → ℕ → SliceStop W → Type 0
 MayStop wrong most runs (Wrong delays what) = (runs < most) × wrong (delays_of delays) what
 MayStop wrong most runs (Next delays) = runs ≡ most
 
 -- it stops at a useful list; or nowhere
 abbrev pub StopsAt :
-    {W : Type 0} → Class → (List ℕ → List ℕ) → (List ℕ → W → Type 0) → List ℕ → ℕ → ℕ → Option (Stop W) → Type 0
+    {W : Type 0} → Class → (List ℕ → List ℕ) → (List ℕ → W → Type 0) → List ℕ → ℕ → ℕ → Option (SliceStop W) → Type 0
 StopsAt class offers wrong from most runs None = runs ≤ most
 StopsAt class offers wrong from most runs (Some stop) =
     IsUsefulFrom class offers from (delays_of (stopped_at stop)) × MayStop wrong most runs stop
@@ -64,7 +64,7 @@ AreJoined class offers right wrong from most more first second =
 -- what a slice says of the whole search, by where it stops
 abbrev pub FindsWhole :
     {W : Type 0} → Class → (List ℕ → List ℕ) → (List ℕ → Bool → Type 0) → (List ℕ → W → Type 0) →
-    ℕ → ℕ → Option (Stop W) → Type 0
+    ℕ → ℕ → Option (SliceStop W) → Type 0
 FindsWhole class offers right wrong runs cut None = AreClean class offers right (runs % 2 ^ 64) (cut % 2 ^ 64)
 FindsWhole class offers right wrong runs cut (Some (Wrong delays what)) =
     IsFirst class offers right wrong (delays_of delays) what

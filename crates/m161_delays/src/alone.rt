@@ -8,7 +8,7 @@ ghost use Rattle.m161_delays.specs.Runs.{IsUsefulOf, StandsAt};
 
 use crate::runs::Runs;
 use crate::search::Class;
-use crate::slice::Stop;
+use crate::slice::SliceStop;
 use crate::walk::{Sums, end_of_places, least_behind, one_if, useful_longer};
 use m161_jobs::Tested;
 use m161_order::Delays;
@@ -32,21 +32,21 @@ fn judge_next<T: Runs>(
     point: &T::Point,
     limit: Option<u64>,
     sums: &mut Sums,
-) -> Result<Option<Stop<T::Wrong>>, T::Error>
+) -> Result<Option<SliceStop<T::Wrong>>, T::Error>
     requires { T.is_on runs.now (delays_of delays) point.now }
     ensures ok { IfOk result (GoesAlong (λ numbers. numbers ≡ delays_of delays) (T.right runs.now) (T.wrong runs.now)
         limit sums.old sums.new) }
     ensures err { IfErr result (T.fails runs.now) }
 {
     if is_spent(limit, sums.runs) {
-        return Ok(Some(Stop::Next { delays }));
+        return Ok(Some(SliceStop::Next { delays }));
     }
     match runs.judge_from(&delays, point)? {
         Tested::Right { is_cut } => {
             sums.add(1, one_if(is_cut));
             Ok(None)
         }
-        Tested::Wrong(wrong) => Ok(Some(Stop::Wrong { delays, wrong })),
+        Tested::Wrong(wrong) => Ok(Some(SliceStop::Wrong { delays, wrong })),
     }
 }
 
@@ -89,7 +89,7 @@ pub(crate) fn walk_along<T: Runs>(
     more: u32,
     limit: Option<u64>,
     sums: &mut Sums,
-) -> Result<Option<Stop<T::Wrong>>, T::Error>
+) -> Result<Option<SliceStop<T::Wrong>>, T::Error>
     requires point { StandsAt (T.is_on runs.now) (delays_of delays) (last_from class.from (delays_of delays)) point.now }
     requires useful { IsUsefulOf class (T.offers runs.now) (delays_of delays) }
     requires room { length (delays_of delays) + more ≤ class.most }

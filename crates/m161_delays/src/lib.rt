@@ -27,4 +27,4 @@ pub use m161_jobs::Tested;
 pub use m161_order::Delays;
 pub use runs::Runs;
 pub use search::{Class, Searched, search_lists};
-pub use slice::{Slice, Stop, search_alone, search_slice};
+pub use slice::{Slice, SliceStop, search_alone, search_slice};

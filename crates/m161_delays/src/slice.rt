@@ -14,7 +14,7 @@ use std::alloc::Global;
 
 /// Where a slice stops.
 #[derive(Drop)]
-pub enum Stop<W> {
+pub enum SliceStop<W> {
     /// At the first list whose run goes wrong.
     Wrong {
         /// The list.
@@ -37,7 +37,7 @@ pub struct Slice<W> {
     /// How many of them were cut.
     pub cut: u64,
     /// Where it stops; nowhere where no list of the class is left.
-    pub stop: Option<Stop<W>>,
+    pub stop: Option<SliceStop<W>>,
 }
 
 // The numbers of a list, where lists of its length are looked at.
@@ -135,7 +135,7 @@ pub fn search_alone<T: Runs>(
     } = slice_of(alloc, runs, class, &[], None)?;
     match stop {
         None => Ok(Searched::Clean { runs: right, cut }),
-        Some(Stop::Wrong { delays, wrong }) => Ok(Searched::Wrong { delays, wrong }),
-        Some(Stop::Next { .. }) => unreachable!(),
+        Some(SliceStop::Wrong { delays, wrong }) => Ok(Searched::Wrong { delays, wrong }),
+        Some(SliceStop::Next { .. }) => unreachable!(),
     }
 }

@@ -17,6 +17,7 @@ mod Sliding
 mod Again
 mod Transfers
 mod Booted
+pub mod OneBoot
 mod Unfolding
 mod Using
 mod Idle

@@ -1,94 +1,10 @@
-use Rattle.std.proofs.Common.{◌≡◌, ◌∙◌, refl, ap, sym, subst, ℕ, zero, suc, ◌+◌, ◌*◌, ◌/◌, ◌%◌, ◌^◌, ◌<◌, ◌≤◌, arith, Bool, true, false, List, [], ◌∷◌, ◌++◌, length, get_or, ext_get_or}
-use Rattle.std.specs.Prelude.{◌==◌, flat_map, if◌then◌else◌}
-use Rattle.std.specs.List.{range_with_len}
-use Rattle.std.proofs.lemmas.Bool.Decides.{nat_tests}
+use Rattle.std.proofs.Common.{◌≡◌, ◌∙◌, ap, sym, subst, ℕ, ◌+◌, ◌*◌, ◌/◌, ◌%◌, ◌<◌, arith, List, length, get_or, ext_get_or}
 use Rattle.m161_ram.specs.Word.{word_at}
-use Rattle.m161_alike.specs.Words.{memory_words, word_change}
+use Rattle.m161_alike.specs.Words.{memory_words}
+use Rattle.m161_alike.proofs.Memory.{SamePlace, by_rest, changes, same_bytes, same_words}
 use Rattle.m161_states.specs.Shape.{HaveBytes}
 
 -- Memory is told by its words.
-
--- the law
-
--- words from place i on
-abbrev changes : List ℕ → List ℕ → ℕ → ℕ → List ℕ
-changes boot m i n = flat_map (λ j. word_change boot m (4 * j)) (range_with_len i n)
-
--- the first address is that of a place from i on
-abbrev BeginsFrom : ℕ → List ℕ → Type 0
-BeginsFrom i [] = Unit {0}
-BeginsFrom i (at ∷ rest) = 4 * i ≤ at
-
-later : (i : ℕ) (l : List ℕ) → BeginsFrom (i + 1) l → BeginsFrom i l
-later i [] h = tt
-later i (at ∷ rest) h = omega (arith, h)
-
-begins_by : (test : Bool) (i word : ℕ) (rest : List ℕ) → BeginsFrom (i + 1) rest →
-    BeginsFrom i ((if test then [] else 4 * i ∷ word ∷ []) ++ rest)
-begins_by true i word rest h = later i rest h
-begins_by false i word rest h = omega arith
-
-begins : (boot m : List ℕ) (i n : ℕ) → BeginsFrom i (changes boot m i n)
-begins boot m i zero = tt
-begins boot m i (suc n) =
-    begins_by (word_at m (4 * i) == word_at boot (4 * i)) i (word_at m (4 * i)) (changes boot m (i + 1) n) (begins boot m (i + 1) n)
-
--- a word that is there can't be left out
-not_there : (i word : ℕ) (rest l : List ℕ) → BeginsFrom (i + 1) l → 4 * i ∷ word ∷ rest ≡ l → ⊥
-not_there i word rest [] h e = cc
-not_there i word rest (at ∷ l) h e =
-    let same : 4 * i ≡ at = ap (λ (x : List ℕ). get_or x 0 0) e in omega (arith, h, same)
-
--- of two lists, the words at one place, and the rest
-abbrev SameFirst : ℕ → ℕ → List ℕ → List ℕ → Type 0
-SameFirst x y r q = (x ≡ y) × (r ≡ q)
-
-abbrev tail_of : List ℕ → List ℕ
-tail_of [] = []
-tail_of (x ∷ xs) = xs
-
-first_by : (s t : Bool) (i b x y : ℕ) (r q : List ℕ) → (x == b) ≡ s → (y == b) ≡ t → BeginsFrom (i + 1) r → BeginsFrom (i + 1) q →
-    (if s then [] else 4 * i ∷ x ∷ []) ++ r ≡ (if t then [] else 4 * i ∷ y ∷ []) ++ q → SameFirst x y r q
-first_by true true i b x y r q hs ht hr hq e = (grind (arith, nat_tests, hs, ht), e)
-first_by true false i b x y r q hs ht hr hq e = absurd (not_there i y q r hr (sym e))
-first_by false true i b x y r q hs ht hr hq e = absurd (not_there i x r q hq e)
-first_by false false i b x y r q hs ht hr hq e =
-    (ap (λ (l : List ℕ). get_or l 1 0) e, ap (λ (l : List ℕ). tail_of (tail_of l)) e)
-
-first_same : (boot a b : List ℕ) (i n : ℕ) → changes boot a i (suc n) ≡ changes boot b i (suc n) →
-    SameFirst (word_at a (4 * i)) (word_at b (4 * i)) (changes boot a (i + 1) n) (changes boot b (i + 1) n)
-first_same boot a b i n e =
-    first_by (word_at a (4 * i) == word_at boot (4 * i)) (word_at b (4 * i) == word_at boot (4 * i)) i (word_at boot (4 * i))
-    (word_at a (4 * i)) (word_at b (4 * i)) (changes boot a (i + 1) n) (changes boot b (i + 1) n) refl refl
-    (begins boot a (i + 1) n) (begins boot b (i + 1) n) e
-
-same_words : (boot a b : List ℕ) (i n k : ℕ) → changes boot a i n ≡ changes boot b i n → k < n →
-    word_at a (4 * (i + k)) ≡ word_at b (4 * (i + k))
-same_words boot a b i zero k e below = absurd (let bad : ⊥ = omega (arith, below) in bad)
-same_words boot a b i (suc n) zero e below =
-    let here : i ≡ i + 0 = omega arith in
-    subst (λ j. word_at a (4 * j) ≡ word_at b (4 * j)) here (first_same boot a b i n e).0
-same_words boot a b i (suc n) (suc k) e below =
-    let there : i + 1 + k ≡ i + suc k = omega arith in
-    let left : k < n = omega (arith, below) in
-    subst (λ j. word_at a (4 * j) ≡ word_at b (4 * j)) there (same_words boot a b (i + 1) n k (first_same boot a b i n e).1 left)
-
--- the bytes of a word
-same_bytes : (a0 a1 a2 a3 b0 b1 b2 b3 : ℕ) → a1 < 256 → a2 < 256 → a3 < 256 → b1 < 256 → b2 < 256 → b3 < 256 →
-    a0 * 2 ^ 24 + a1 * 2 ^ 16 + a2 * 2 ^ 8 + a3 ≡ b0 * 2 ^ 24 + b1 * 2 ^ 16 + b2 * 2 ^ 8 + b3 →
-    (a0 ≡ b0) × (a1 ≡ b1) × (a2 ≡ b2) × (a3 ≡ b3)
-same_bytes a0 a1 a2 a3 b0 b1 b2 b3 h1 h2 h3 k1 k2 k3 e = (
-  omega (arith, h1, h2, h3, k1, k2, k3, e),
-  omega (arith, h1, h2, h3, k1, k2, k3, e),
-  omega (arith, h1, h2, h3, k1, k2, k3, e),
-  omega (arith, h1, h2, h3, k1, k2, k3, e),
-)
-
--- the four bytes at a place
-SamePlace : List ℕ → List ℕ → ℕ → Type 0
-SamePlace a b k =
-    (get_or a (4 * k) 0 ≡ get_or b (4 * k) 0) × (get_or a (4 * k + 1) 0 ≡ get_or b (4 * k + 1) 0)
-    × (get_or a (4 * k + 2) 0 ≡ get_or b (4 * k + 2) 0) × (get_or a (4 * k + 3) 0 ≡ get_or b (4 * k + 3) 0)
 
 place_same : (a b : List ℕ) → HaveBytes a → HaveBytes b → (k : ℕ) → word_at a (4 * k) ≡ word_at b (4 * k) → SamePlace a b k
 unfolding SamePlace
@@ -100,15 +16,6 @@ place_same a b p q k e =
     (get_or b (4 * k) 0) (get_or b (4 * k + 1) 0) (get_or b (4 * k + 2) 0) (get_or b (4 * k + 3) 0)
     (p (4 * k + 1) one) (p (4 * k + 2) two) (p (4 * k + 3) three)
     (q (4 * k + 1) one) (q (4 * k + 2) two) (q (4 * k + 3) three) e
-
-by_rest : (a b : List ℕ) (k r i : ℕ) → r < 4 → i ≡ 4 * k + r → SamePlace a b k → get_or a i 0 ≡ get_or b i 0
-unfolding SamePlace
-by_rest a b k zero i small is h =
-    let here : i ≡ 4 * k = omega (arith, is) in subst (λ j. get_or a j 0 ≡ get_or b j 0) (sym here) h.0
-by_rest a b k (suc zero) i small is h = subst (λ j. get_or a j 0 ≡ get_or b j 0) (sym is) h.1
-by_rest a b k (suc (suc zero)) i small is h = subst (λ j. get_or a j 0 ≡ get_or b j 0) (sym is) h.2
-by_rest a b k (suc (suc (suc zero))) i small is h = subst (λ j. get_or a j 0 ≡ get_or b j 0) (sym is) h.3
-by_rest a b k (suc (suc (suc (suc r)))) i small is h = absurd (let bad : ⊥ = omega (arith, small) in bad)
 
 pub memory_told : (boot a b : List ℕ) → HaveBytes a → HaveBytes b → length a % 4 ≡ 0 → length a ≡ length b →
     memory_words boot a ≡ memory_words boot b → a ≡ b

@@ -1,21 +1,21 @@
 use Rattle.std.specs.List.{All}
 use Rattle.std.proofs.Common.{◌≡◌, ◌∙◌, Bool, false, refl, ap, sym, subst, arith, ℕ, ◌+◌, ◌-◌, ◌<◌, ◌≤◌, List, [], ◌∷◌, ◌++◌, append-nil, length, take, drop, get_or}
 use Rattle.std.specs.Prelude.{Option, None, Some, slice_get, replicate}
-use Rattle.std.proofs.lemmas.List.{drop_more, ext_get_or, length-append, length-drop, length-map, length-take, map-append, replicate-append-replicate, take-append-drop, take-take, take_all, take_more}
+use Rattle.std.proofs.lemmas.List.{drop_more, length-append, length-drop, length-map, length-take, map-append, replicate-append-replicate, take-append-drop, take-take, take_all, take_more}
 use Rattle.m161_drive.specs.declared.cursor.Cursor.{Cursor}
 use Rattle.m161_drive.specs.Choice.{chosen, cursor_at, taken}
 use Rattle.m161_drive.specs.Drive.{Chooses}
 use Rattle.m161_drive.specs.Policy.{Rules}
 use Rattle.m161_elf.specs.declared.span.Span.{Span}
-use Rattle.m161_elf.specs.Image.{IsImage}
 use Rattle.m161_machine.specs.declared.conf.Conf.{Conf}
 use Rattle.m161_machine.specs.declared.event.Entry.{Entry}
 use Rattle.m161_machine.specs.declared.event.Event.{Event}
 use Rattle.m161_machine.specs.declared.event.Event.TheVariants.{Done}
 use Rattle.m161_cpu.specs.declared.processor.Outcome.TheVariants.{Taken}
-use Rattle.m161_machine.specs.History.{IsBootState, Leads, boot_state, entry, events_of}
+use Rattle.m161_machine.specs.History.{IsBootState, Leads, entry, events_of}
 use Rattle.m161_machine.specs.State.{State, next}
 use Rattle.m161_machine.proofs.Made.{conf_stays}
+use Rattle.m161_machine.proofs.OneBoot.{booted_as_one}
 use Rattle.m161_traps.specs.declared.traps.Trap.{Trap}
 use Rattle.m161_traps.specs.Traps.{state_after, state_behind}
 use Rattle.m161_traps.specs.Unhandled.{first_unhandled}
@@ -34,24 +34,6 @@ use Rattle.s161_run.proofs.Logging.{made_is}
 use Rattle.s161_run.proofs.Making.{first_more, run_taken}
 
 -- Looking for a trap along the events of a run.
-
--- states at boot
-
-same_bytes : (file : List ℕ) (ram a b : ℕ) (xs ys : List ℕ) → IsImage file ram a xs → IsImage file ram b ys → xs ≡ ys
-same_bytes file ram a b xs ys i j =
-    ext_get_or 0 xs ys (i.size_is ∙ sym j.size_is)
-    (λ at less. let here : at < ram = subst (λ n. at < n) i.size_is less in i.bytes_are at here ∙ sym (j.bytes_are at here))
-
--- a file and a configuration have one
-pub booted_as_one : (file : List ℕ) (conf : Conf) (s t : State) → IsBootState file conf s → IsBootState file conf t → s ≡ t
-booted_as_one file conf s t a b =
-    let same_conf : a.start.conf ≡ b.start.conf = a.conf_is ∙ sym b.conf_is in
-    let same_entry : a.start.entry ≡ b.start.entry = a.image.entry_is ∙ sym b.image.entry_is in
-    let same_memory : a.start.bytes ≡ b.start.bytes =
-    same_bytes file conf.ram a.start.entry b.start.entry a.start.bytes b.start.bytes a.image b.image in
-    a.state_is
-    ∙ (λ i. boot_state (record { bytes = same_memory i; entry = same_entry i; conf = same_conf i }))
-    ∙ sym b.state_is
 
 -- its configuration stays
 pub boots_still : (file : List ℕ) (conf : Conf) (booted t : State) (es : List Entry) → BootsIn file conf booted → Leads booted es t → BootsIn file t.conf booted

@@ -19,8 +19,8 @@ use Rattle.s161_base.specs.Machines.{conf_asked}
 -- The Steps, the output and the exit status of `run --threads`.
 
 -- how a run in threads stopped, by whether the machine is off, and its conflict
-abbrev pub stop_of : Bool → Option Conflict → RunStop
-stop_of off conflict = if off then stop_off conflict else End
+abbrev pub stop_in_threads : Bool → Option Conflict → RunStop
+stop_in_threads off conflict = if off then stop_off conflict else End
 
 -- one thread for each processor
 abbrev pub threads_of : ThreadsTask → ℕ
@@ -41,7 +41,7 @@ pub record IsRunInThreads
   pub machine : History
   pub interleaves :
       Interleaves booted (replicate (threads_of task) task.quota) made off machine
-  pub stop_is : stop ≡ stop_of off machine.state.conflict
+  pub stop_is : stop ≡ stop_in_threads off machine.state.conflict
   pub from_boot :
       threads_of task * task.quota ≤ task.run.size.log → machine.base ≡ booted.state
   pub text_is :

@@ -5,7 +5,7 @@ ghost use Rattle.m161_machine.specs.History.{events_of};
 ghost use Rattle.s161_run.specs.Runs.{shown_log, summary_text, told_traps};
 ghost use Rattle.s161_base.specs.Asked.{AsksFor, image_files};
 ghost use Rattle.s161_base.specs.Samples.{image_file};
-ghost use Rattle.s161_run.specs.Threads.{IsRunInThreads, IsThreadsFault, stop_of};
+ghost use Rattle.s161_run.specs.Threads.{IsRunInThreads, IsThreadsFault, stop_in_threads};
 ghost use Rattle.s161_run.specs.helpers.Threads.{FailsBooted, KeepsLast, RunsBooted};
 
 use crate::booted::boot_machine;
@@ -96,8 +96,8 @@ fn quotas_of(alloc: Global, quota: u32, processors: u32) -> Result<Vec<u32>, All
 }
 
 // How a run in threads stopped, by whether the machine is off, and its conflict.
-fn stop_of(off: bool, conflict: Option<Conflict>) -> RunStop
-    ensures { result ≡ stop_of off conflict }
+fn stop_in_threads(off: bool, conflict: Option<Conflict>) -> RunStop
+    ensures { result ≡ stop_in_threads off conflict }
 {
     if off {
         stop_off(conflict)
@@ -118,10 +118,10 @@ fn finish<'a>(
         done.text.items ≡ summary_text
         (told_traps traps report.machine.base (events_of report.machine.log))
         (shown_log report.machine.start.conf file.now report.machine.base.made report.machine.log)
-        report.machine.state (stop_of report.off report.machine.state.conflict) shown) }
+        report.machine.state (stop_in_threads report.off report.machine.state.conflict) shown) }
     ensures notes { IfOk result (λ done. string_bytes done.notes ≡ []) }
     ensures stop { IfOk result (λ done.
-        done.stop ≡ stop_of report.off report.machine.state.conflict) }
+        done.stop ≡ stop_in_threads report.off report.machine.state.conflict) }
     ensures err { IfErr result (λ fault. fault ≡ Fault.Memory) }
 {
     let Report {
@@ -129,7 +129,7 @@ fn finish<'a>(
         counts: _,
         off,
     } = report;
-    let stop = stop_of(off, machine.conflict());
+    let stop = stop_in_threads(off, machine.conflict());
     let log = log_of_machine(alloc, &machine, file, shown)?;
     let traps = traps_of_log(alloc, &machine, traps)?;
     let text = summary(

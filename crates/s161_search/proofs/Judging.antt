@@ -45,7 +45,7 @@ use Rattle.s161_search.specs.helpers.Delayed.{BeginsBehind, IsRightFrom, IsRunFr
 use Rattle.s161_search.specs.helpers.Tried.{ArePrintedWith, IsTried}
 use Rattle.s161_search.specs.helpers.Telling.{Begins, TellsRun}
 use Rattle.s161_search.proofs.Behind.{are_shortened, cut_parts, parts_of, take_needed}
-use Rattle.s161_search.proofs.Booting.{booted_as_one}
+use Rattle.m161_machine.proofs.OneBoot.{booted_as_one}
 use Rattle.s161_search.proofs.Telling.{run_told}
 
 -- Verdicts of runs and of lists of events.

@@ -32,7 +32,8 @@ use Rattle.s161_search.specs.helpers.Begun.{IsJudgedFrom}
 use Rattle.s161_search.specs.helpers.Telling.{Begins, HasHangFrom, TellsOf, TellsRun, comes_first}
 use Rattle.s161_search.specs.helpers.Tried.{ArePrintedWith}
 use Rattle.s161_search.proofs.Behind.{are_shortened, cut_parts, parts_of, take_needed}
-use Rattle.s161_search.proofs.Booting.{booted_as_one, begins as starts}
+use Rattle.m161_machine.proofs.OneBoot.{booted_as_one}
+use Rattle.s161_search.proofs.Booting.{begins as starts}
 
 -- The verdict of a search.
 

@@ -139,14 +139,14 @@ FailsAs None never task files before after fault =
     × LeavesInput task before.input after.input
 
 -- the line of a fault was written to standard error, as far as that took it
-abbrev pub IsTold : Fault → Option (List ℕ) → Option (List ℕ) → Type 0
-IsTold fault before after = AppendsSome before after (with_line_end (fault_line fault))
+abbrev pub IsReported : Fault → Option (List ℕ) → Option (List ℕ) → Type 0
+IsReported fault before after = AppendsSome before after (with_line_end (fault_line fault))
 
 -- standard error failed while a text was written to it, and has some of that; and then as much as it
 -- took of the line of this fault
 abbrev pub FailsToSay : List ℕ → Option (List ℕ) → Option (List ℕ) → Type 0
 FailsToSay text before after =
-    (between : Option (List ℕ)) × AppendsSome before between text × IsTold Output between after
+    (between : Option (List ℕ)) × AppendsSome before between text × IsReported Output between after
 
 -- a command line's task was ended by a fault, over these files and streams, which was told then. Its
 -- files were asked for up to that fault, and one of a file came before anything was read of standard
@@ -158,7 +158,7 @@ FailsToDo words files before after =
     × FailsAs (going_of task) (never_of words) task files.known before (standard after.input after.output errors) fault
     × AsksUntil (files_of task) files.before files.after fault
     × IsBeforeInput fault before.input after.input
-    × IsTold fault errors after.errors)
+    × IsReported fault errors after.errors)
 
 -- what a command line with the status 1 did
 pub data EndsBadly
@@ -174,12 +174,12 @@ pub data EndsBadly
   -- it asks for help or for the version, and standard output failed
   unhelped :
       GivesHelp words → IsUnasked files → after.input ≡ before.input →
-      HasMore before.output after.output → IsTold Output before.errors after.errors →
+      HasMore before.output after.output → IsReported Output before.errors after.errors →
       EndsBadly words files before after
   -- memory was refused before it was known what it asks for, or before that was said
   unread :
       IsUnasked files → after.input ≡ before.input → after.output ≡ before.output →
-      IsTold Memory before.errors after.errors → EndsBadly words files before after
+      IsReported Memory before.errors after.errors → EndsBadly words files before after
   -- it isn't followed, and standard error failed while that was said
   unsaid :
       IsRefused words → IsUnasked files → after.input ≡ before.input →

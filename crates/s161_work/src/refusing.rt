@@ -6,7 +6,7 @@ ghost use Rattle.s161_base.specs.declared.fault.Fault.TheVariants.{Memory, Outpu
 ghost use Rattle.s161_base.specs.Streams.{AppendsSome};
 ghost use Rattle.clap.specs.Words.{kind_of};
 ghost use Rattle.s161_command.specs.Commands.{IsHelp};
-ghost use Rattle.s161_work.specs.Failures.{FailsToSay, IsTold};
+ghost use Rattle.s161_work.specs.Failures.{FailsToSay, IsReported};
 ghost use Rattle.s161_work.specs.Works.{HasClashText, HasMore, IsClashText};
 ghost use Rattle.s161_work.specs.helpers.Refusals.{FailsToSayClash, IsHelped, IsSaid, IsUnsaid, Says};
 
@@ -71,7 +71,7 @@ fn print_help<O: Write, E: Write>(text: &[u8], output: &mut O, errors: &mut E) -
     ensures help { result ≡ 0 → Appends (O.contents output.old) (O.contents output.new) text.now
         × (E.contents errors.new ≡ E.contents errors.old) }
     ensures unsaid { result ≡ 1 → AppendsSome (O.contents output.old) (O.contents output.new) text.now
-        × IsTold Output (E.contents errors.old) (E.contents errors.new) }
+        × IsReported Output (E.contents errors.old) (E.contents errors.new) }
     ensures within { result ≤ 1 }
 {
     match send(output, text) {
@@ -95,7 +95,7 @@ fn print_usage<E: Write>(text: &[u8], errors: &mut E) -> u8
 // Writes why options can't be followed to standard error. Returns the exit status: 2 if all of it was
 // written. Formatted before it is written, as clap's texts are, so that one call writes both.
 fn report_clash<E: Write>(alloc: Global, clash: Clash, errors: &mut E) -> u8
-    ensures unsaid { result ≡ 1 → IsTold Memory (E.contents errors.old) (E.contents errors.new)
+    ensures unsaid { result ≡ 1 → IsReported Memory (E.contents errors.old) (E.contents errors.new)
         ⊎ FailsToSayClash (E.contents errors.old) (E.contents errors.new) }
     ensures usage { result ≡ 2 → HasClashText (E.contents errors.old) (E.contents errors.new) }
     ensures within { (1 ≤ result) × (result ≤ 2) }

@@ -3,7 +3,7 @@
 ghost use Rattle.std.specs.Prelude.{◌≡◌, ◌≢◌, ◌≤◌, IfErr, IfOk, map, string_bytes};
 ghost use Rattle.s161_base.specs.Asked.{AsksFor, IsBeforeInput};
 ghost use Rattle.s161_command.specs.Commands.{HasLimits};
-ghost use Rattle.s161_work.specs.Failures.{EndsBadly, FailsAs, IsTold};
+ghost use Rattle.s161_work.specs.Failures.{EndsBadly, FailsAs, IsReported};
 ghost use Rattle.s161_work.specs.Works.{Finishes, Follows, IsDone, Rejects, file_use, files_of, going_of, standard};
 
 use crate::going::{debug_out, gdb_out, serve, trace_out};
@@ -53,7 +53,7 @@ where
     ensures told { IfErr words.entry (λ fault. (F.asked files.new ≡ F.asked files.old)
         × (I.remaining input.new ≡ I.remaining input.old)
         × (O.contents output.new ≡ O.contents output.old)
-        × IsTold fault (E.contents errors.old) (E.contents errors.new)) }
+        × IsReported fault (E.contents errors.old) (E.contents errors.new)) }
     ensures within { result ≤ 6 }
 {
     match words {

@@ -1,8 +1,8 @@
 use Rattle.std.specs.Prelude.{◌≡◌, ◌==◌, ◌+◌, ◌≤◌, ◌<◌, ℕ, Bool, if◌then◌else◌, List, [], ◌∷◌, ◌++◌, length, max, Option, None, Some}
 use Rattle.m161_order.specs.Delays.{delays_of}
 use Rattle.m161_delays.specs.declared.search.Class.{Class}
-use Rattle.m161_delays.specs.declared.slice.Stop.{Stop}
-use Rattle.m161_delays.specs.declared.slice.Stop.TheVariants.{Next, Wrong}
+use Rattle.m161_delays.specs.declared.slice.SliceStop.{SliceStop}
+use Rattle.m161_delays.specs.declared.slice.SliceStop.TheVariants.{Next, Wrong}
 use Rattle.m161_delays.specs.declared.walk.Sums.{Sums}
 use Rattle.m161_delays.specs.Lists.{ComesBefore, IsLess}
 use Rattle.m161_delays.specs.Slices.{stopped_at}
@@ -38,7 +38,7 @@ pub record AreMade
       → (new.runs ≡ old.runs + length counted.lists) × (new.runs ≤ most)
 
 -- why a walk stops behind so many runs
-abbrev pub MayStopIn : {W : Type 0} → (List ℕ → W → Type 0) → Option ℕ → ℕ → Stop W → Type 0
+abbrev pub MayStopIn : {W : Type 0} → (List ℕ → W → Type 0) → Option ℕ → ℕ → SliceStop W → Type 0
 MayStopIn wrong limit runs (Wrong delays what) =
     ((most : ℕ) → limit ≡ Some most → runs ≤ most → runs < most) × wrong (delays_of delays) what
 MayStopIn wrong limit runs (Next delays) = limit ≡ Some runs
@@ -46,13 +46,13 @@ MayStopIn wrong limit runs (Next delays) = limit ≡ Some runs
 -- it stops at a list that is so, and the runs of those before it are made
 pub record StopsSo
     {W : Type 0} (IsSo : List ℕ → Type 0) (right : List ℕ → Bool → Type 0) (wrong : List ℕ → W → Type 0)
-    (limit : Option ℕ) (old new : Sums) (stop : Stop W) : Type 0 where
+    (limit : Option ℕ) (old new : Sums) (stop : SliceStop W) : Type 0 where
   pub is_so : IsSo (delays_of (stopped_at stop))
   pub may : MayStopIn wrong limit new.runs stop
   pub before : AreMade (λ all. IsSo all × ComesBefore all (delays_of (stopped_at stop))) right limit old new
 
 abbrev pub GoesAlong :
     {W : Type 0} → (List ℕ → Type 0) → (List ℕ → Bool → Type 0) → (List ℕ → W → Type 0) → Option ℕ →
-    Sums → Sums → Option (Stop W) → Type 0
+    Sums → Sums → Option (SliceStop W) → Type 0
 GoesAlong IsSo right wrong limit old new None = AreMade IsSo right limit old new
 GoesAlong IsSo right wrong limit old new (Some stop) = StopsSo IsSo right wrong limit old new stop

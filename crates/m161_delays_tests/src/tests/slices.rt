@@ -1,7 +1,7 @@
 //! Slices of searches.
 
 use crate::table::Table;
-use m161_delays::{Class, Searched, Slice, Stop, search_alone, search_slice};
+use m161_delays::{Class, Searched, Slice, SliceStop, search_alone, search_slice};
 use std::alloc::{AllocGlobal, Global};
 use std::fmt::Debug;
 use std::process::Abort;
@@ -163,8 +163,8 @@ fn check_next<R: Abort>(rt: &R, alloc: Global, row: &Row, most: u64) -> Result<(
     let Slice { runs, stop, .. } = search_slice(alloc, &table(NONE), CLASS, from, most)?;
     same(rt, runs, most);
     match stop {
-        Some(Stop::Next { delays }) => same_list(rt, delays.as_slice(), &row.next, row.long),
-        Some(Stop::Wrong { .. }) => same(rt, "wrong", "next"),
+        Some(SliceStop::Next { delays }) => same_list(rt, delays.as_slice(), &row.next, row.long),
+        Some(SliceStop::Wrong { .. }) => same(rt, "wrong", "next"),
         None => same(rt, "none left", "next"),
     }
     Ok(())
@@ -181,8 +181,8 @@ fn check_whole<R: Abort>(rt: &R, alloc: Global, most: u64) -> Result<(), Fail> {
         all_cut = all_cut.wrapping_add(cut);
         next.clear();
         match stop {
-            Some(Stop::Next { delays }) => next.extend_from_slice(delays.as_slice())?,
-            Some(Stop::Wrong { .. }) => same(rt, "wrong", "right"),
+            Some(SliceStop::Next { delays }) => next.extend_from_slice(delays.as_slice())?,
+            Some(SliceStop::Wrong { .. }) => same(rt, "wrong", "right"),
             None => {
                 same(rt, all, 12);
                 same(rt, all_cut, 8);
@@ -234,7 +234,7 @@ fn wrong_in_slice(rt: HostRuntime) -> Result<(), Fail> {
     let slice = search_slice(rt.alloc(), &table(2), CLASS, &[0, 2], 1)?;
     same(&rt, slice.runs, 0);
     match slice.stop {
-        Some(Stop::Wrong { delays, wrong }) => {
+        Some(SliceStop::Wrong { delays, wrong }) => {
             same(&rt, wrong, 2);
             same_list(&rt, delays.as_slice(), &[0, 3, 0, 0, 0], 2);
         }
@@ -243,7 +243,7 @@ fn wrong_in_slice(rt: HostRuntime) -> Result<(), Fail> {
     let slice = search_slice(rt.alloc(), &table(2), CLASS, &[1], 2)?;
     same(&rt, slice.runs, 2);
     match slice.stop {
-        Some(Stop::Next { delays }) => same_list(&rt, delays.as_slice(), &[0, 1, 0, 0, 0], 2),
+        Some(SliceStop::Next { delays }) => same_list(&rt, delays.as_slice(), &[0, 1, 0, 0, 0], 2),
         _ => same(&rt, "another end", "next"),
     }
     match search_alone(rt.alloc(), &table(3), CLASS)? {

@@ -6,7 +6,7 @@ use Rattle.s161_command.specs.declared.task.Rejection.{Rejection}
 use Rattle.s161_command.specs.declared.task.Rejection.TheVariants.{Words, Options}
 use Rattle.s161_command.specs.Commands.{IsHelp}
 use Rattle.std.specs.Io.KnownBytes.{Appends}
-use Rattle.s161_work.specs.Failures.{FailsToSay, IsTold}
+use Rattle.s161_work.specs.Failures.{FailsToSay, IsReported}
 use Rattle.s161_work.specs.Works.{HasMore, IsClashText}
 
 -- What is said of a command line without a task.
@@ -44,6 +44,6 @@ FailsToSayClash before after = (text : List ℕ) × IsClashText text × FailsToS
 abbrev pub IsUnsaid :
     Rejection → Option (List ℕ) → Option (List ℕ) → Option (List ℕ) → Option (List ℕ) → Type 0
 IsUnsaid rejection before after errors_before errors_after =
-    ((after ≡ before) × IsTold Memory errors_before errors_after)
-    ⊎ (IsHelped rejection before after × IsTold Output errors_before errors_after)
+    ((after ≡ before) × IsReported Memory errors_before errors_after)
+    ⊎ (IsHelped rejection before after × IsReported Output errors_before errors_after)
     ⊎ (IsSaid rejection × (after ≡ before) × FailsToSayWhy rejection errors_before errors_after)

@@ -10,7 +10,7 @@ use Rattle.s161_base.specs.Samples.{image_file}
 use Rattle.s161_base.specs.Machines.{conf_asked}
 use Rattle.s161_run.specs.declared.events.RunStop.{RunStop}
 use Rattle.s161_run.specs.Runs.{shown_log, summary_text, told_traps}
-use Rattle.s161_run.specs.Threads.{IsThreadsFault, stop_of}
+use Rattle.s161_run.specs.Threads.{IsThreadsFault, stop_in_threads}
 use Rattle.s161_run.specs.helpers.Threads.{number_of}
 use Rattle.s161_run.proofs.Threading.{based, booted_clear, booted_ok, failed_booted}
 use Rattle.s161_run.proofs.threaded.run_in_threads.Goals as goal
@@ -46,7 +46,7 @@ returns-clause-ok g c =
       text_is =
           c.in_ok-done.ensures.text
           ∙ ap (λ (conf : Conf). summary_text traps (shown_log conf file report.machine.base.made report.machine.log) report.machine.state
-          (stop_of report.off report.machine.state.conflict) c.args.task.run.shown) same
+          (stop_in_threads report.off report.machine.state.conflict) c.args.task.run.shown) same
           ∙ ap (λ (stop : RunStop). summary_text traps (shown_log conf file report.machine.base.made report.machine.log) report.machine.state stop c.args.task.run.shown)
           (sym c.in_ok-done.ensures.stop);
       stop_is = c.in_ok-done.ensures.stop;
