@@ -143,7 +143,7 @@ same_bytes a0 a1 a2 a3 b0 b1 b2 b3 h1 h2 h3 k1 k2 k3 e = (
 )
 
 -- the four bytes at a place
-pub SamePlace : List ℕ → List ℕ → ℕ → Type 0
+unfoldable pub SamePlace : List ℕ → List ℕ → ℕ → Type 0
 SamePlace a b k =
     (get_or a (4 * k) 0 ≡ get_or b (4 * k) 0) × (get_or a (4 * k + 1) 0 ≡ get_or b (4 * k + 1) 0)
     × (get_or a (4 * k + 2) 0 ≡ get_or b (4 * k + 2) 0) × (get_or a (4 * k + 3) 0 ≡ get_or b (4 * k + 3) 0)
