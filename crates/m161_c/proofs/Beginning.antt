@@ -10,7 +10,7 @@ use Rattle.m161_c.specs.helpers.Begun.{IsBegunOf}
 use Rattle.m161_c.specs.declared.answer.Exploration.{Exploration}
 use Rattle.m161_explore.specs.declared.whole.Answer.{Answer}
 use Rattle.m161_states.specs.declared.verdict.Unknown.{Unknown}
-use Rattle.m161_states.specs.declared.verdict.Verdict.{Verdict}
+use Rattle.m161_states.specs.declared.verdict.EventVerdict.{EventVerdict}
 
 -- An exploration that was begun, kept with copies of what is asked.
 
@@ -36,7 +36,7 @@ is_of boot limit goal asked e at some fits begun same =
     record { same_boot = refl; same_limit = refl; same_goal = same; begun = is_begun boot limit goal asked e at some fits begun same }
 
 -- what a slice says, once it has the answer
-pub is_explored : (b : Begun) (goal : Criteria) (number : ℕ) (after : Exploring) (o : Option (Answer Verdict Unknown)) (a : Answer Verdict Unknown) (found : Exploration) (events : List ℕ) →
+pub is_explored : (b : Begun) (goal : Criteria) (number : ℕ) (after : Exploring) (o : Option (Answer EventVerdict Unknown)) (a : Answer EventVerdict Unknown) (found : Exploration) (events : List ℕ) →
     IsBegun b → goal ≡ b.goal → GoesOnExploring b.boot goal b.limit number b.exploring after o → o ≡ Some a → Tells a found events →
     IsExplored b.boot b.limit b.goal found events
 is_explored b goal number after o a found events begun same goes is tells =

@@ -9,7 +9,7 @@ use Rattle.m161_judge.specs.Verdict.{Criteria}
 use Rattle.m161_machine.specs.State.{State}
 use Rattle.m161_reach.specs.Reach.{CanBeAsked, IsLearnt, question_of, rules_of}
 use Rattle.m161_states.specs.declared.verdict.Unknown.{Unknown}
-use Rattle.m161_states.specs.declared.verdict.Verdict.{Verdict}
+use Rattle.m161_states.specs.declared.verdict.EventVerdict.{EventVerdict}
 use Rattle.m161_c.specs.declared.answer.Exploration.{Exploration}
 use Rattle.m161_c.specs.declared.answer.WatchNumbers.{WatchNumbers}
 use Rattle.m161_c.specs.Verdicts.{as_run, no_verdict, run_verdict}
@@ -30,7 +30,7 @@ criteria_of keys watches never output =
     record { watches = map watch_of watches; never = never; output = output; keys = keys }
 
 -- an answer as numbers, with the numbers of the events of its list, if it has one
-abbrev pub Tells : Answer Verdict Unknown → Exploration → List ℕ → Type 0
+abbrev pub Tells : Answer EventVerdict Unknown → Exploration → List ℕ → Type 0
 Tells (Clean states) found events =
     (found ≡ record { kind = 0; states = states; events = 0; verdict = no_verdict })
     × (events ≡ [])
@@ -61,7 +61,7 @@ pub record IsExplored (boot : State) (limit : ℕ) (goal : Criteria) (found : Ex
   pub asked : CanBeAsked boot goal
   pub known : Known
   pub learnt : IsLearnt (question_of boot goal known)
-  pub answer : Answer Verdict Unknown
+  pub answer : Answer EventVerdict Unknown
   pub answers : Answers (rules_of (question_of boot goal known)) limit answer
   pub tells : Tells answer found events
 

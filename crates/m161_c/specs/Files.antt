@@ -13,7 +13,7 @@ use Rattle.m161_machine.specs.declared.conf.Conf.{Conf}
 use Rattle.m161_machine.specs.declared.conf.BootError.{BootError}
 use Rattle.m161_machine.specs.declared.conf.BootError.TheVariants.{BadConf, Load, NoMemory}
 use Rattle.m161_machine.specs.History.{History, Boots, boot_fault}
-use Rattle.m161_c.specs.declared.answer.Fault.{Fault}
+use Rattle.m161_c.specs.declared.answer.FaultPlace.{FaultPlace}
 use Rattle.m161_c.specs.declared.answer.Size.{Size}
 use Rattle.m161_c.specs.declared.session.Session.{Session}
 
@@ -31,20 +31,20 @@ TellsFile symbols (Err e) defined =
     ((e.kind ≡ faults.NoMemory) × (e.column ≡ 1)) ⊎ (defined ≡ Err (e.line, (e.kind, e.column)))
 
 -- the file becomes the session's bytes; or nothing is changed, and the fault is told
-abbrev pub KeepsFile : Result (List ℕ) AsmError → ℕ → Fault → Fault → Session → Session → Type 0
+abbrev pub KeepsFile : Result (List ℕ) AsmError → ℕ → FaultPlace → FaultPlace → Session → Session → Type 0
 KeepsFile (Ok file) answer before after s t =
     (answer ≡ 0) × (after ≡ before) × (t.machine ≡ s.machine) × (t.bytes.items ≡ file)
 KeepsFile (Err e) answer before after s t =
     (answer ≡ number_of_kind e.kind) × (after ≡ record { line = e.line; column = e.column })
     × (t ≡ s)
 
-abbrev pub Assembles : List ℕ → Bool → ℕ → Fault → Fault → Session → Session → Type 0
+abbrev pub Assembles : List ℕ → Bool → ℕ → FaultPlace → FaultPlace → Session → Session → Type 0
 Assembles source symbols answer before after s t =
     (result : Result (List ℕ) AsmError) × TellsFile symbols result (text source)
     × KeepsFile result answer before after s t
 
 -- a text that isn't UTF-8 is not assembled
-abbrev pub AssemblesAs : List ℕ → Bool → ℕ → Fault → Fault → Session → Session → Type 0
+abbrev pub AssemblesAs : List ℕ → Bool → ℕ → FaultPlace → FaultPlace → Session → Session → Type 0
 AssemblesAs source symbols answer before after s t =
     IsUtf8 source × Assembles source symbols answer before after s t
     ⊎ (IsUtf8 source → ⊥) × (answer ≡ 253) × (after ≡ before) × (t ≡ s)

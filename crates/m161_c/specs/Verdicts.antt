@@ -1,7 +1,7 @@
-use Rattle.m161_judge.specs.declared.verdict.Verdict.{Verdict as RunVerdict}
+use Rattle.m161_judge.specs.declared.verdict.Verdict.{Verdict}
 use Rattle.m161_judge.specs.declared.verdict.Verdict.TheVariants as run
-use Rattle.m161_states.specs.declared.verdict.Verdict.{Verdict}
-use Rattle.m161_states.specs.declared.verdict.Verdict.TheVariants.{Stale, Reached, Conflict, Stuck, Output}
+use Rattle.m161_states.specs.declared.verdict.EventVerdict.{EventVerdict}
+use Rattle.m161_states.specs.declared.verdict.EventVerdict.TheVariants.{Stale, Reached, Conflict, Stuck, Output}
 use Rattle.m161_c.specs.declared.answer.VerdictNumbers.{VerdictNumbers}
 
 -- The numbers of a verdict.
@@ -10,7 +10,7 @@ abbrev pub no_verdict : VerdictNumbers
 no_verdict = record { kind = 0; processor = 0; address = 0; row = 0; other = 0 }
 
 -- on a run; its place has none
-abbrev pub run_verdict : RunVerdict → VerdictNumbers
+abbrev pub run_verdict : Verdict → VerdictNumbers
 run_verdict (run.Stale place p address row) =
     record no_verdict { kind = 1; processor = p; address = address; row = row }
 run_verdict (run.Reached place p address) =
@@ -22,7 +22,7 @@ run_verdict run.Output = record no_verdict { kind = 5 }
 run_verdict run.End = record no_verdict { kind = 6 }
 
 -- on a list that an exploration found: those of the same on a run, whatever its place
-abbrev pub as_run : Verdict → RunVerdict
+abbrev pub as_run : EventVerdict → Verdict
 as_run (Stale p address row) = run.Stale 0 p address row
 as_run (Reached p address) = run.Reached 0 p address
 as_run (Conflict c) = run.Conflict c

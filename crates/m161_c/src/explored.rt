@@ -16,7 +16,7 @@ use m161_audit::{AuditError, Watch, audit_core};
 use m161_explore::Answer;
 use m161_judge::Goal;
 use m161_reach::{Exploration as Explored, can_be_asked, explore_machine};
-use m161_states::{Unknown, Verdict};
+use m161_states::{EventVerdict, Unknown};
 use std::alloc::{AllocError, Global};
 
 fn watch_of(numbers: &WatchNumbers) -> Watch
@@ -141,7 +141,7 @@ fn tell_list(
 /// An answer as numbers, and the numbers of the events of its list.
 pub(crate) fn tell(
     alloc: Global,
-    answer: Answer<Verdict, Unknown>,
+    answer: Answer<EventVerdict, Unknown>,
 ) -> Result<(Exploration, Vec<u8>), AllocError>
     requires { HasEnded answer → ⊥ }
     ensures { IfOk result (λ told. Tells answer told.0 told.1.items) }

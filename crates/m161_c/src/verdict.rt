@@ -6,8 +6,8 @@ ghost use Rattle.m161_c.specs.Verdicts.{as_run, run_verdict};
 
 use crate::answer::{Judgement, VerdictNumbers};
 use crate::told::{SearchVerdict, Told};
-use m161_judge::Verdict as RunVerdict;
-use m161_states::Verdict;
+use m161_judge::Verdict;
+use m161_states::EventVerdict;
 
 /// No verdict.
 pub(crate) const NONE: VerdictNumbers = VerdictNumbers {
@@ -25,11 +25,11 @@ pub(crate) const RIGHT: Judgement = Judgement {
 };
 
 /// Those of a verdict on a run.
-pub(crate) fn run_verdict(verdict: RunVerdict) -> VerdictNumbers
+pub(crate) fn run_verdict(verdict: Verdict) -> VerdictNumbers
     ensures { result ≡ run_verdict verdict }
 {
     match verdict {
-        RunVerdict::Stale {
+        Verdict::Stale {
             place: _,
             processor,
             address,
@@ -41,7 +41,7 @@ pub(crate) fn run_verdict(verdict: RunVerdict) -> VerdictNumbers
             row: u32::from(row),
             ..NONE
         },
-        RunVerdict::Reached {
+        Verdict::Reached {
             place: _,
             processor,
             address,
@@ -51,16 +51,16 @@ pub(crate) fn run_verdict(verdict: RunVerdict) -> VerdictNumbers
             address,
             ..NONE
         },
-        RunVerdict::Conflict(conflict) => VerdictNumbers {
+        Verdict::Conflict(conflict) => VerdictNumbers {
             kind: 3,
             processor: conflict.processor,
             row: u32::from(conflict.row),
             other: u32::from(conflict.other),
             ..NONE
         },
-        RunVerdict::Stuck => VerdictNumbers { kind: 4, ..NONE },
-        RunVerdict::Output => VerdictNumbers { kind: 5, ..NONE },
-        RunVerdict::End => VerdictNumbers { kind: 6, ..NONE },
+        Verdict::Stuck => VerdictNumbers { kind: 4, ..NONE },
+        Verdict::Output => VerdictNumbers { kind: 5, ..NONE },
+        Verdict::End => VerdictNumbers { kind: 6, ..NONE },
     }
 }
 
@@ -88,27 +88,27 @@ pub(crate) fn told_numbers(told: Option<Told>) -> Judgement
 }
 
 /// A verdict that an exploration found, as one on a run.
-pub(crate) fn as_run(verdict: Verdict) -> RunVerdict
+pub(crate) fn as_run(verdict: EventVerdict) -> Verdict
     ensures { result ≡ as_run verdict }
 {
     match verdict {
-        Verdict::Stale {
+        EventVerdict::Stale {
             processor,
             address,
             row,
-        } => RunVerdict::Stale {
+        } => Verdict::Stale {
             place: 0,
             processor,
             address,
             row,
         },
-        Verdict::Reached { processor, address } => RunVerdict::Reached {
+        EventVerdict::Reached { processor, address } => Verdict::Reached {
             place: 0,
             processor,
             address,
         },
-        Verdict::Conflict(conflict) => RunVerdict::Conflict(conflict),
-        Verdict::Stuck => RunVerdict::Stuck,
-        Verdict::Output => RunVerdict::Output,
+        EventVerdict::Conflict(conflict) => Verdict::Conflict(conflict),
+        EventVerdict::Stuck => Verdict::Stuck,
+        EventVerdict::Output => Verdict::Output,
     }
 }

@@ -14,8 +14,8 @@ use Rattle.m161_alike.specs.declared.known.Known.{Known}
 use Rattle.m161_explore.specs.declared.system.Advanced.{Advanced}
 use Rattle.m161_explore.specs.declared.system.Advanced.TheVariants.{Refused}
 use Rattle.m161_states.specs.declared.verdict.Unknown.{Unknown}
-use Rattle.m161_states.specs.declared.verdict.Verdict.{Verdict}
-use Rattle.m161_states.specs.declared.verdict.Verdict.TheVariants.{Stuck}
+use Rattle.m161_states.specs.declared.verdict.EventVerdict.{EventVerdict}
+use Rattle.m161_states.specs.declared.verdict.EventVerdict.TheVariants.{Stuck}
 use Rattle.m161_states.specs.Question.{Question}
 use Rattle.m161_states.specs.Run.{FreshIsSame, freshened}
 use Rattle.m161_states.specs.System.{Explored, Flags, accepted, agreed_after, behind, flags_behind, fresh}
@@ -126,7 +126,7 @@ fresh_wrong goal y =
     λ i. option_or (conflict_in y.state)
     (option_or (if stuck i && not (has_sent goal.output y.agreed) then Some Stuck else None) (output_in goal y))
 
-pub accepted_came : (q : Question) (x t : Explored) (e : Event) (o : Outcome) (u : State) (v : Option Verdict) → stop_by q x (Some e) ≡ None →
+pub accepted_came : (q : Question) (x t : Explored) (e : Event) (o : Outcome) (u : State) (v : Option EventVerdict) → stop_by q x (Some e) ≡ None →
     result_of (fresh x.state) e ≡ Ok (o, u) → t ≡ unmade (behind q.goal x e u) →
     option_or (wrong_with q.goal x e o) (wrong_in q.goal t) ≡ v → AdvancesBy q x (Some e) t (advanced_by v)
 accepted_came q x t e o u None stop r is h = (
@@ -151,10 +151,10 @@ pub refused_came : (q : Question) (x t : Explored) (e : Event) (f : Refusal) →
 refused_came q x t e f stop r same = (stop, ap (accepted q.goal x e) r, same)
 
 -- what comes of an input
-abbrev pub Comes : Criteria → Explored → Option Outcome → Advanced Verdict Unknown → Type 0
+abbrev pub Comes : Criteria → Explored → Option Outcome → Advanced EventVerdict Unknown → Type 0
 Comes goal t made came = came ≡ (if is_some made then advanced_by (wrong_in goal t) else Refused)
 
-pub done_came : (goal : Criteria) (known : Known) (x t : Explored) (made : Option Outcome) (came : Advanced Verdict Unknown) → Takes goal x Done t made →
+pub done_came : (goal : Criteria) (known : Known) (x t : Explored) (made : Option Outcome) (came : Advanced EventVerdict Unknown) → Takes goal x Done t made →
     Comes goal t made came → AdvancesBy (asked goal known) x (Some Done) t came
 done_came goal known x t (Some o) came h is =
     subst (AdvancesBy (asked goal known) x (Some Done) t) (sym is) (accepted_came (asked goal known) x t Done o h.0 (wrong_in goal t) refl h.1 h.2 refl)
@@ -164,7 +164,7 @@ done_came goal known x t None came h is =
 abbrev pub key_of : Option ℕ → Option Event
 key_of byte = option_map (λ b. Key b) byte
 
-pub key_came : (goal : Criteria) (known : Known) (x t : Explored) (byte : Option ℕ) (made : Option Outcome) (came : Advanced Verdict Unknown) →
+pub key_came : (goal : Criteria) (known : Known) (x t : Explored) (byte : Option ℕ) (made : Option Outcome) (came : Advanced EventVerdict Unknown) →
     TakesNext goal x (key_of byte) t made → Comes goal t made came → AdvancesBy (asked goal known) x (key_of byte) t came
 key_came goal known x t (Some byte) (Some o) came h is =
     subst (AdvancesBy (asked goal known) x (Some (Key byte)) t) (sym is)

@@ -6,7 +6,7 @@ use Rattle.m161_alike.specs.WordsLaw.{AreOfOneConf}
 use Rattle.m161_explore.specs.declared.system.Advanced.{Advanced}
 use Rattle.m161_explore.specs.declared.system.Advanced.TheVariants.{Refused, Passed, Judged, Stopped}
 use Rattle.m161_states.specs.declared.verdict.Unknown.{Unknown}
-use Rattle.m161_states.specs.declared.verdict.Verdict.{Verdict}
+use Rattle.m161_states.specs.declared.verdict.EventVerdict.{EventVerdict}
 use Rattle.m161_states.specs.Question.{Question}
 use Rattle.m161_states.specs.Shape.{IsShaped}
 use Rattle.m161_states.specs.System.{Explored, event_of, fresh, start}
@@ -20,13 +20,13 @@ use Rattle.m161_reach.proofs.Meeting.{is_behind}
 
 -- A state in hand.
 
-refused_same : (q : Question) (x t : Explored) (e : Option Event) (come : Advanced Verdict Unknown) → AdvancesBy q x e t come → come ≡ Refused → t ≡ x
+refused_same : (q : Question) (x t : Explored) (e : Option Event) (come : Advanced EventVerdict Unknown) → AdvancesBy q x e t come → come ≡ Refused → t ≡ x
 refused_same q x t e Refused h is = h.2
-refused_same q x t e Passed h is = absurd (let bad : ◌≡◌ {A = Advanced Verdict Unknown} Passed Refused = is in cc)
-refused_same q x t e (Judged what) h is = absurd (let bad : ◌≡◌ {A = Advanced Verdict Unknown} (Judged what) Refused = is in cc)
+refused_same q x t e Passed h is = absurd (let bad : ◌≡◌ {A = Advanced EventVerdict Unknown} Passed Refused = is in cc)
+refused_same q x t e (Judged what) h is = absurd (let bad : ◌≡◌ {A = Advanced EventVerdict Unknown} (Judged what) Refused = is in cc)
 refused_same q x t e (Stopped reason) h is = h.1
 
-pub handled : (q : Question) (x t : Explored) (n : ℕ) (e : Option Event) (come : Advanced Verdict Unknown) → event_of q x n ≡ e →
+pub handled : (q : Question) (x t : Explored) (n : ℕ) (e : Option Event) (come : Advanced EventVerdict Unknown) → event_of q x n ≡ e →
     AdvancesBy (asked q.goal q.known) x e t come → IsHandled q x n t come
 handled q x t n e come is h = (
   subst (λ f. IsBehind q.goal x f t) (sym is) (is_behind (asked q.goal q.known) x t e come h),

@@ -14,7 +14,7 @@ use Rattle.m161_explore.specs.declared.whole.Answer.TheVariants.{Ended}
 use Rattle.m161_explore.specs.Answers.{Answers, IsStopped}
 use Rattle.m161_explore.specs.Lists.{Leads}
 use Rattle.m161_states.specs.declared.verdict.Unknown.{Unknown}
-use Rattle.m161_states.specs.declared.verdict.Verdict.{Verdict}
+use Rattle.m161_states.specs.declared.verdict.EventVerdict.{EventVerdict}
 use Rattle.m161_states.specs.Question.{Question, processors_of}
 use Rattle.m161_states.specs.System.{Explored, event_of, start}
 use Rattle.m161_states.specs.Verdicts.{is_outside, reads_next, stop_by}
@@ -177,7 +177,7 @@ stopped : (q : Question) (u : Unknown) → IsStopped (rules_of q) u → IsNews q
 unfolding rules_of
 stopped q u h = let s = h.1 in by_event q s.from s.last u (event_of q s.from s.last) refl s.stop
 
-pub ended : (q r : Question) (limit : ℕ) (answer : Answer Verdict Unknown) (u : Unknown) → Answers (rules_of q) limit answer → answer ≡ Ended u → q ≡ r → IsNews r u
+pub ended : (q r : Question) (limit : ℕ) (answer : Answer EventVerdict Unknown) (u : Unknown) → Answers (rules_of q) limit answer → answer ≡ Ended u → q ≡ r → IsNews r u
 ended q r limit answer u h is same = subst (λ x. IsNews x u) same (stopped q u (subst (λ a. Answers (rules_of q) limit a) is h))
 
 -- what is read then
@@ -215,7 +215,7 @@ stopped_reads q u which h on =
     let reads = event_reads q s.from s.last u (event_of q s.from s.last) refl s.stop in
     (s.followed.before, s.from, s.followed.leads, ap which reads ∙ on)
 
-ended_reads : (q r : Question) (limit : ℕ) (answer : Answer Verdict Unknown) (u : Unknown) (which : Reads → Bool) → Answers (rules_of q) limit answer → answer ≡ Ended u →
+ended_reads : (q r : Question) (limit : ℕ) (answer : Answer EventVerdict Unknown) (u : Unknown) (which : Reads → Bool) → Answers (rules_of q) limit answer → answer ≡ Ended u →
     q ≡ r → which u.reads ≡ true → ReadsBehind r u.processor which
 ended_reads q r limit answer u which h is same on =
     subst (λ x. ReadsBehind x u.processor which) same (stopped_reads q u which (subst (λ a. Answers (rules_of q) limit a) is h) on)
@@ -225,7 +225,7 @@ either true b h = inl refl
 either false b h = inr h
 
 -- of one register
-register_learnt : (boot : State) (goal : Criteria) (old new : Known) (u : Unknown) (which : Reads → Bool) (limit : ℕ) (q : Question) (answer : Answer Verdict Unknown) →
+register_learnt : (boot : State) (goal : Criteria) (old new : Known) (u : Unknown) (which : Reads → Bool) (limit : ℕ) (q : Question) (answer : Answer EventVerdict Unknown) →
     Answers (rules_of q) limit answer → answer ≡ Ended u → q ≡ question_of boot goal old →
     which (joined u.reads (known_of old u.processor)) ≡ (which u.reads || which (known_of old u.processor)) →
     known_of new u.processor ≡ joined u.reads (known_of old u.processor) → ((p : ℕ) → p < 32 → p ≢ u.processor → known_of new p ≡ known_of old p) →
@@ -244,7 +244,7 @@ register_learnt boot goal old new u which limit q answer h is same splits mine o
       | inr other ↦ reads_as boot goal old new p which (learnt p below (sym (ap which (others p below other)) ∙ on))
     ]
 
-pub still_learnt : (boot : State) (goal : Criteria) (old new : Known) (u : Unknown) (limit : ℕ) (q : Question) (answer : Answer Verdict Unknown) →
+pub still_learnt : (boot : State) (goal : Criteria) (old new : Known) (u : Unknown) (limit : ℕ) (q : Question) (answer : Answer EventVerdict Unknown) →
     Answers (rules_of q) limit answer → answer ≡ Ended u → q ≡ question_of boot goal old →
     known_of new u.processor ≡ joined u.reads (known_of old u.processor) → ((p : ℕ) → p < 32 → p ≢ u.processor → known_of new p ≡ known_of old p) →
     IsLearnt (question_of boot goal old) → IsLearnt (question_of boot goal new)

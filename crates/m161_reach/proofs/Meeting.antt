@@ -7,7 +7,7 @@ use Rattle.m161_explore.specs.declared.system.Advanced.{Advanced}
 use Rattle.m161_explore.specs.declared.system.Advanced.TheVariants.{Judged, Passed, Refused, Stopped}
 use Rattle.m161_explore.specs.Rules.{Advances}
 use Rattle.m161_states.specs.declared.verdict.Unknown.{Unknown}
-use Rattle.m161_states.specs.declared.verdict.Verdict.{Verdict}
+use Rattle.m161_states.specs.declared.verdict.EventVerdict.{EventVerdict}
 use Rattle.m161_states.specs.Question.{Question, processors_of}
 use Rattle.m161_states.specs.System.{Explored, event_of, next_by}
 use Rattle.m161_states.specs.Verdicts.{stop_by}
@@ -26,7 +26,7 @@ same_stop q x (Some (Step p)) = refl
 same_stop q x (Some (Key byte)) = refl
 same_stop q x (Some Done) = refl
 
-came_by : (q : Question) (x t : Explored) (n : ℕ) (came : Advanced Verdict Unknown) → IsMet q x →
+came_by : (q : Question) (x t : Explored) (n : ℕ) (came : Advanced EventVerdict Unknown) → IsMet q x →
     AdvancesBy (asked q.goal q.known) x (event_of q x n) t came → Advances (rules_of q) (IsMet q) x n t came
 unfolding rules_of
 came_by q x t n Refused met h = (sym (same_stop q x (event_of q x n)) ∙ h.0, h.1)
@@ -43,7 +43,7 @@ came_by q x t n Passed met h =
 came_by q x t n (Judged what) met h = (h.0, sym (same_stop q x (event_of q x n)) ∙ h.1, h.2, h.3)
 came_by q x t n (Stopped reason) met h = sym (same_stop q x (event_of q x n)) ∙ h.0
 
-pub came : (q : Question) (x t : Explored) (n : ℕ) (e : Option Event) (come : Advanced Verdict Unknown) → IsMet q x → event_of q x n ≡ e →
+pub came : (q : Question) (x t : Explored) (n : ℕ) (e : Option Event) (come : Advanced EventVerdict Unknown) → IsMet q x → event_of q x n ≡ e →
     AdvancesBy (asked q.goal q.known) x e t come → Advances (rules_of q) (IsMet q) x n t come
 came q x t n e come met is h = came_by q x t n come met (subst (λ f. AdvancesBy (asked q.goal q.known) x f t come) (sym is) h)
 
@@ -73,7 +73,7 @@ key_event q x n past =
 
 -- where the machine is behind an event
 
-pub is_behind : (q : Question) (x t : Explored) (e : Option Event) (come : Advanced Verdict Unknown) → AdvancesBy q x e t come → IsBehind q.goal x e t
+pub is_behind : (q : Question) (x t : Explored) (e : Option Event) (come : Advanced EventVerdict Unknown) → AdvancesBy q x e t come → IsBehind q.goal x e t
 is_behind q x t e Refused h = inl h.2
 is_behind q x t e Passed h = inr (h.0, h.2, h.4)
 is_behind q x t e (Judged what) h = inr (h.0, h.2, h.4)

@@ -9,7 +9,7 @@ use Rattle.m161_explore.specs.declared.whole.Answer.{Answer}
 use Rattle.m161_explore.specs.Answers.{Answers}
 use Rattle.m161_explore.specs.Unfinished.{IsUnfinished}
 use Rattle.m161_states.specs.declared.verdict.Unknown.{Unknown}
-use Rattle.m161_states.specs.declared.verdict.Verdict.{Verdict}
+use Rattle.m161_states.specs.declared.verdict.EventVerdict.{EventVerdict}
 use Rattle.m161_states.specs.Verdicts.{is_outside}
 use Rattle.m161_reach.specs.Hand.{InHand, IsReady}
 use Rattle.m161_reach.specs.Reach.{HasEnded, IsLearnt, IsMet, question_of, rules_of}
@@ -38,7 +38,7 @@ pub record LearnsMore (old new : Known) : Type 0 where
 
 -- there is an answer; or there is none yet, and the events of so many states more were tried, or more is
 -- known of time, and the states are looked for anew
-abbrev pub GoesOnExploring : State → Criteria → ℕ → ℕ → Exploring → Exploring → Option (Answer Verdict Unknown) → Type 0
+abbrev pub GoesOnExploring : State → Criteria → ℕ → ℕ → Exploring → Exploring → Option (Answer EventVerdict Unknown) → Type 0
 GoesOnExploring boot goal limit number before after (Some answer) =
     Answers (rules_of (question_of boot goal after.known)) limit answer × (HasEnded answer → ⊥)
     × IsLearnt (question_of boot goal after.known)

@@ -6,7 +6,7 @@ use Rattle.m161_alike.specs.declared.known.Known.{Known}
 use Rattle.m161_alike.specs.declared.reads.Reads.{Reads}
 use Rattle.m161_alike.specs.View.{known_of}
 use Rattle.m161_states.specs.declared.verdict.Unknown.{Unknown}
-use Rattle.m161_states.specs.declared.verdict.Verdict.{Verdict}
+use Rattle.m161_states.specs.declared.verdict.EventVerdict.{EventVerdict}
 use Rattle.m161_states.specs.Question.{Question, can_start, processors_of}
 use Rattle.m161_states.specs.System.{Explored, next, start}
 use Rattle.m161_states.specs.Verdicts.{is_end, reads_next, stop, verdict}
@@ -20,7 +20,7 @@ use Rattle.m161_explore.specs.Rules.{Rules}
 -- The states that a machine can reach, in the form in which an exploration asks for them.
 
 -- the events are a Step of each processor, Done, and the next key
-unfoldable pub rules_of : Question → Rules Explored Verdict Unknown
+unfoldable pub rules_of : Question → Rules Explored EventVerdict Unknown
 rules_of q = record {
   width = processors_of q + 2;
   start = start q;

@@ -14,7 +14,7 @@ ghost use Rattle.m161_judge.specs.Judge.{bytes_of};
 ghost use Rattle.m161_reach.specs.helpers.Advance.{AdvancesBy, Takes, TakesNext, advanced_by, asked};
 
 use crate::judge::{reached_by, stale_use, within_reach, wrong_in};
-use crate::kept::{Kept, keep_store};
+use crate::kept::{WatchFlags, keep_store};
 use crate::place::Place;
 use m161_alike::next_reads;
 use m161_audit::Watch;
@@ -22,7 +22,7 @@ use m161_bus::Console;
 use m161_explore::Advanced;
 use m161_judge::Goal;
 use m161_machine::{Core, Outcome, Refusal, worn};
-use m161_states::{Known, Reads, Unknown, Verdict, fresh_is_same};
+use m161_states::{EventVerdict, Known, Reads, Unknown, fresh_is_same};
 use m161_tlb::Tlb;
 use std::alloc::AllocError;
 
@@ -60,7 +60,7 @@ pub fn unknown<T: Tlb, D: Console>(core: &Core<T, D>, known: &Known, p: u32) -> 
 }
 
 // The first of two verdicts.
-fn first(verdict: Option<Verdict>, other: Option<Verdict>) -> Option<Verdict>
+fn first(verdict: Option<EventVerdict>, other: Option<EventVerdict>) -> Option<EventVerdict>
     ensures { result ≡ option_or verdict other }
 {
     match verdict {
@@ -70,7 +70,7 @@ fn first(verdict: Option<Verdict>, other: Option<Verdict>) -> Option<Verdict>
 }
 
 // What comes of an accepted event with this verdict.
-fn advanced(verdict: Option<Verdict>) -> Advanced<Verdict, Unknown>
+fn advanced(verdict: Option<EventVerdict>) -> Advanced<EventVerdict, Unknown>
     ensures { result ≡ advanced_by verdict }
 {
     match verdict {
@@ -80,7 +80,7 @@ fn advanced(verdict: Option<Verdict>) -> Advanced<Verdict, Unknown>
 }
 
 // Keeps of the watches that a word was stored to, if one was.
-fn keep_stored(stored: Option<u32>, watches: &[Watch], kept: &mut [Kept])
+fn keep_stored(stored: Option<u32>, watches: &[Watch], kept: &mut [WatchFlags])
     requires { length kept.old ≡ length watches.now }
     ensures { kept.new ≡ flags_behind stored watches.now kept.old }
 {
@@ -220,7 +220,7 @@ fn advance_known<T: Tlb, D: Console>(
     goal: &Goal,
     place: &mut Place<T, D>,
     p: u32,
-) -> Result<Advanced<Verdict, Unknown>, AllocError>
+) -> Result<Advanced<EventVerdict, Unknown>, AllocError>
     requires place { p < length place.old.state.processors }
     requires kept { length place.old.flags ≡ length goal.now.watches }
     ensures { IfOk result (λ came. (known : Known)
@@ -245,7 +245,7 @@ pub fn advance_step<T: Tlb, D: Console>(
     known: &Known,
     place: &mut Place<T, D>,
     p: u32,
-) -> Result<Advanced<Verdict, Unknown>, AllocError>
+) -> Result<Advanced<EventVerdict, Unknown>, AllocError>
     requires place { p < length place.old.state.processors }
     requires kept { length place.old.flags ≡ length goal.now.watches }
     ensures { IfOk result (AdvancesBy (asked goal.now known.now) place.old (Some (events.Step p)) place.new) }
@@ -261,7 +261,7 @@ fn advanced_input<T: Tlb, D: Console>(
     goal: &Goal,
     place: &Place<T, D>,
     made: Option<Outcome>,
-) -> Advanced<Verdict, Unknown>
+) -> Advanced<EventVerdict, Unknown>
     ensures { result ≡ (if is_some made then advanced_by (wrong_in goal.now place.now) else Refused) }
 {
     match made {
@@ -274,7 +274,7 @@ fn advanced_input<T: Tlb, D: Console>(
 pub fn advance_done<T: Tlb, D: Console>(
     goal: &Goal,
     place: &mut Place<T, D>,
-) -> Result<Advanced<Verdict, Unknown>, AllocError>
+) -> Result<Advanced<EventVerdict, Unknown>, AllocError>
     requires { IfSome goal.now.output (λ bytes. length bytes < 2 ^ 32) }
     ensures { IfOk result (λ came. (known : Known) → AdvancesBy (asked goal.now known) place.old (Some events.Done) place.new came) }
 {
@@ -286,7 +286,7 @@ pub fn advance_done<T: Tlb, D: Console>(
 pub fn advance_key<T: Tlb, D: Console>(
     goal: &Goal,
     place: &mut Place<T, D>,
-) -> Result<Advanced<Verdict, Unknown>, AllocError>
+) -> Result<Advanced<EventVerdict, Unknown>, AllocError>
     requires { length goal.now.keys < 2 ^ 32 }
     ensures { IfOk result (λ came. (known : Known) → AdvancesBy (asked goal.now known) place.old
         (option_map (λ byte. events.Key byte) (slice_get goal.now.keys place.old.typed)) place.new came) }

@@ -6,7 +6,7 @@ ghost use Rattle.m161_alike.specs.Words.{board_words, optional};
 ghost use Rattle.m161_alike.specs.WordsLaw.{words_at};
 ghost use Rattle.m161_states.specs.Views.{beside_words, counted, flag_words};
 
-use crate::kept::Kept;
+use crate::kept::WatchFlags;
 use crate::place::Place;
 use m161_alike::{write_board, write_processor};
 use m161_bus::Console;
@@ -41,7 +41,7 @@ fn optional(part: Option<u32>) -> [u32; 2]
 }
 
 // What is kept of the watches.
-fn push_kept(kept: &[Kept], words: &mut Vec<u32>) -> Result<(), AllocError>
+fn push_kept(kept: &[WatchFlags], words: &mut Vec<u32>) -> Result<(), AllocError>
     ensures { OnOk result (words.new.items ≡ words.old.items ++ flat_map flag_words kept.now) }
 {
     for i in 0..kept.len() {

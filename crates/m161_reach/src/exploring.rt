@@ -11,7 +11,7 @@ use m161_explore::{Answer, Unfinished, begin, go_on};
 use m161_judge::Goal;
 use m161_machine::Core;
 use m161_progress::Listener;
-use m161_states::{Known, Unknown, Verdict};
+use m161_states::{EventVerdict, Known, Unknown};
 use m161_tlb::Tlb;
 use std::alloc::{AllocError, Global};
 use std::marker::Model;
@@ -74,7 +74,7 @@ pub fn go_on_machine<'a, T: Tlb + Drop, D: Console + Drop, L: Listener>(
     limit: u32,
     number: u32,
     listener: &L,
-) -> Result<Option<Answer<Verdict, Unknown>>, AllocError>
+) -> Result<Option<Answer<EventVerdict, Unknown>>, AllocError>
     requires asked { CanBeAsked boot.now.state goal.now }
     requires some { 0 < limit }
     requires exploring { IsExploring boot.now.state goal.now limit exploring.old }

@@ -11,7 +11,7 @@ ghost use Rattle.m161_judge.specs.Judge.{bytes_of};
 ghost use Rattle.m161_judge.specs.Verdict.{is_stuck};
 ghost use Rattle.m161_states.specs.Verdicts.{conflict_in, has_sent, is_stale_for, is_stuck_in, output_in, reached_at, some_watch, stale_use, stale_via, stuck_in, wrong_in};
 
-use crate::kept::Kept;
+use crate::kept::WatchFlags;
 use crate::place::Place;
 use m161_audit::Watch;
 use m161_bus::Console;
@@ -19,7 +19,7 @@ use m161_cpu::{Uses, Via};
 use m161_drive::is_asleep;
 use m161_judge::Goal;
 use m161_machine::{Core, Outcome, fetches_none};
-use m161_states::Verdict;
+use m161_states::EventVerdict;
 use m161_tlb::{Row, Tlb};
 
 // Whether a row of the TLB is an old mapping, by the page table's entry.
@@ -36,7 +36,7 @@ fn is_stale_for<T: Tlb, D: Console>(
     p: u32,
     via: &Via,
     watch: &Watch,
-    kept: Kept,
+    kept: WatchFlags,
 ) -> bool
     requires { p < length core.now.state.processors }
     ensures { result ≡ is_stale_for core.now.state p via.now watch.now kept }
@@ -62,7 +62,7 @@ fn is_stale<T: Tlb, D: Console>(
     p: u32,
     via: &Via,
     watches: &[Watch],
-    kept: &[Kept],
+    kept: &[WatchFlags],
 ) -> bool
     requires place { p < length core.now.state.processors }
     requires kept { length kept.now ≡ length watches.now }
@@ -82,7 +82,7 @@ fn stale_via<T: Tlb, D: Console>(
     place: &Place<T, D>,
     p: u32,
     via: Option<Via>,
-) -> Option<Verdict>
+) -> Option<EventVerdict>
     requires place { p < length place.now.state.processors }
     requires kept { length place.now.flags ≡ length goal.now.watches }
     ensures { result ≡ stale_via goal.now place.now p via }
@@ -90,7 +90,7 @@ fn stale_via<T: Tlb, D: Console>(
     match via {
         Some(via) => {
             if is_stale(&place.core, p, &via, goal.watches, &place.kept) {
-                Some(Verdict::Stale {
+                Some(EventVerdict::Stale {
                     processor: p,
                     address: via.address,
                     row: via.row.number(),
@@ -109,7 +109,7 @@ pub fn stale_use<T: Tlb, D: Console>(
     place: &Place<T, D>,
     p: u32,
     uses: &Uses,
-) -> Option<Verdict>
+) -> Option<EventVerdict>
     requires place { p < length place.now.state.processors }
     requires kept { length place.now.flags ≡ length goal.now.watches }
     requires uses { uses.now ≡ uses_in p place.now.state }
@@ -134,7 +134,11 @@ fn is_among(addresses: &[u32], address: u32) -> bool
 }
 
 /// What a Step reaches, if it fetches a word.
-pub fn within_reach<T: Tlb, D: Console>(goal: &Goal, place: &Place<T, D>, p: u32) -> Option<Verdict>
+pub fn within_reach<T: Tlb, D: Console>(
+    goal: &Goal,
+    place: &Place<T, D>,
+    p: u32,
+) -> Option<EventVerdict>
     requires { p < length place.now.state.processors }
     ensures { result ≡ reached_at goal.now.never p (processor_at p place.now.state.processors).pc
         (fetched_word place.now.state.memory (processor_at p place.now.state.processors).pc
@@ -144,7 +148,7 @@ pub fn within_reach<T: Tlb, D: Console>(goal: &Goal, place: &Place<T, D>, p: u32
     match place.core.fetched_word(p, address) {
         Some(_word) => {
             if is_among(goal.never, address) {
-                Some(Verdict::Reached {
+                Some(EventVerdict::Reached {
                     processor: p,
                     address,
                 })
@@ -157,21 +161,21 @@ pub fn within_reach<T: Tlb, D: Console>(goal: &Goal, place: &Place<T, D>, p: u32
 }
 
 /// What a Step with this outcome reached, by what it reaches if it fetches a word.
-pub fn reached_by(reach: Option<Verdict>, outcome: Outcome) -> Option<Verdict>
+pub fn reached_by(reach: Option<EventVerdict>, outcome: Outcome) -> Option<EventVerdict>
     ensures { result ≡ (if fetches_none outcome then None else reach) }
 {
     if fetches_none(outcome) { None } else { reach }
 }
 
 // What switched a strict machine off.
-fn conflict_in<T: Tlb, D: Console>(core: &Core<T, D>) -> Option<Verdict>
+fn conflict_in<T: Tlb, D: Console>(core: &Core<T, D>) -> Option<EventVerdict>
     ensures { result ≡ conflict_in core.now.state }
 {
     if !core.is_off() {
         return None;
     }
     match core.conflict() {
-        Some(conflict) => Some(Verdict::Conflict(conflict)),
+        Some(conflict) => Some(EventVerdict::Conflict(conflict)),
         None => None,
     }
 }
@@ -215,29 +219,29 @@ pub fn is_end_of<T: Tlb, D: Console>(goal: &Goal, place: &Place<T, D>) -> bool
 }
 
 // Nothing is left to do, and the console hasn't sent what is asked for.
-fn stuck_in<T: Tlb, D: Console>(goal: &Goal, place: &Place<T, D>) -> Option<Verdict>
+fn stuck_in<T: Tlb, D: Console>(goal: &Goal, place: &Place<T, D>) -> Option<EventVerdict>
     ensures { result ≡ stuck_in goal.now place.now }
 {
     if is_stuck_at(goal, place) && !has_sent(goal.output, place.agreed) {
-        Some(Verdict::Stuck)
+        Some(EventVerdict::Stuck)
     } else {
         None
     }
 }
 
 // The machine is off, and the console hasn't sent what is asked for.
-fn output_in<T: Tlb, D: Console>(goal: &Goal, place: &Place<T, D>) -> Option<Verdict>
+fn output_in<T: Tlb, D: Console>(goal: &Goal, place: &Place<T, D>) -> Option<EventVerdict>
     ensures { result ≡ output_in goal.now place.now }
 {
     if goal.output.is_some() && place.core.is_off() && !has_sent(goal.output, place.agreed) {
-        Some(Verdict::Output)
+        Some(EventVerdict::Output)
     } else {
         None
     }
 }
 
 /// What is wrong with a state.
-pub fn wrong_in<T: Tlb, D: Console>(goal: &Goal, place: &Place<T, D>) -> Option<Verdict>
+pub fn wrong_in<T: Tlb, D: Console>(goal: &Goal, place: &Place<T, D>) -> Option<EventVerdict>
     ensures { result ≡ wrong_in goal.now place.now }
 {
     match conflict_in(&place.core) {

@@ -10,14 +10,14 @@ use std::marker::Model;
 
 /// What is kept of a watch.
 #[derive(Clone, Copy)]
-pub struct Kept {
+pub struct WatchFlags {
     /// The page table's entry was stored to.
     pub changed: bool,
     /// Behind the last store to it the mark was.
     pub gone_on: bool,
 }
 
-impl Model for Kept {
+impl Model for WatchFlags {
     ghost use Rattle.m161_states.specs.System.{Flags};
 
     ghost Value = { Flags };
@@ -28,14 +28,14 @@ impl Model for Kept {
 }
 
 // What is kept.
-fn kept_of(changed: bool, gone_on: bool) -> Kept
+fn kept_of(changed: bool, gone_on: bool) -> WatchFlags
     ensures { result ≡ record { changed = changed; gone_on = gone_on } }
 {
-    Kept { changed, gone_on }
+    WatchFlags { changed, gone_on }
 }
 
 /// What is kept of these watches before any store.
-pub fn keep_watches(alloc: Global, watches: &[Watch]) -> Result<Vec<Kept>, AllocError>
+pub fn keep_watches(alloc: Global, watches: &[Watch]) -> Result<Vec<WatchFlags>, AllocError>
     ensures { IfOk result (λ kept. kept.items ≡ map no_flags watches.now) }
 {
     let mut kept = Vec::with_capacity(alloc, watches.len())?;
@@ -46,7 +46,7 @@ pub fn keep_watches(alloc: Global, watches: &[Watch]) -> Result<Vec<Kept>, Alloc
 }
 
 /// What is kept, by its words.
-pub fn keep_again(alloc: Global, words: &[u32]) -> Result<Vec<Kept>, AllocError>
+pub fn keep_again(alloc: Global, words: &[u32]) -> Result<Vec<WatchFlags>, AllocError>
     ensures { IfOk result (λ kept. (flags : List Flags) → words.now ≡ flat_map flag_words flags → kept.items ≡ flags) }
 {
     let mut kept = Vec::with_capacity(alloc, words.len() / 2)?;
@@ -57,7 +57,7 @@ pub fn keep_again(alloc: Global, words: &[u32]) -> Result<Vec<Kept>, AllocError>
 }
 
 // What is kept of a watch after a store to a word.
-fn kept_after(word: u32, watch: &Watch, kept: Kept) -> Kept
+fn kept_after(word: u32, watch: &Watch, kept: WatchFlags) -> WatchFlags
     ensures { result ≡ flags_after word watch.now kept }
 {
     if watch.pte == word {
@@ -70,7 +70,7 @@ fn kept_after(word: u32, watch: &Watch, kept: Kept) -> Kept
 }
 
 /// Keeps of the watches that a word was stored to.
-pub fn keep_store(word: u32, watches: &[Watch], kept: &mut [Kept])
+pub fn keep_store(word: u32, watches: &[Watch], kept: &mut [WatchFlags])
     requires { length kept.old ≡ length watches.now }
     ensures { kept.new ≡ all_after word watches.now kept.old }
 {

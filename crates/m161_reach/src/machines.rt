@@ -24,7 +24,7 @@ use m161_bus::Console;
 use m161_explore::Advanced;
 use m161_judge::Goal;
 use m161_machine::Core;
-use m161_states::{Known, Unknown, Verdict};
+use m161_states::{EventVerdict, Known, Unknown};
 use m161_tlb::Tlb;
 use std::alloc::{AllocError, Global};
 use std::marker::Model;
@@ -202,7 +202,7 @@ impl<'a, T: Tlb + Drop, D: Console + Drop> Machines<'a, T, D> {
         &self,
         hand: &mut Hand<T, D>,
         event: u32,
-    ) -> Result<Advanced<Verdict, Unknown>, AllocError>
+    ) -> Result<Advanced<EventVerdict, Unknown>, AllocError>
         requires ready { IsReady self.now hand.old }
         requires event { event < processors_of self.now + 2 }
         ensures advances { IfOk result
@@ -221,7 +221,7 @@ impl<'a, T: Tlb + Drop, D: Console + Drop> Machines<'a, T, D> {
         &self,
         place: &mut Place<T, D>,
         event: u32,
-    ) -> Result<Advanced<Verdict, Unknown>, AllocError>
+    ) -> Result<Advanced<EventVerdict, Unknown>, AllocError>
         requires met { IsMet self.now place.old }
         requires event { event < processors_of self.now + 2 }
         ensures advances { IfOk result (Advances (rules_of self.now) (IsMet self.now) place.old event place.new) }

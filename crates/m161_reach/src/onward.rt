@@ -14,7 +14,7 @@ ghost use Rattle.m161_reach.specs.Hand.{IsReady};
 
 use crate::advance::{take_done, take_key, take_step, unknown};
 use crate::hand::{Hand, forget, note_store};
-use crate::kept::Kept;
+use crate::kept::WatchFlags;
 use crate::machines::{Machines, ram_size};
 use crate::place::Place;
 use m161_bus::Console;
@@ -26,7 +26,7 @@ use std::alloc::{AllocError, Global};
 use std::marker::Model;
 
 // What is kept of the watches, again.
-fn copy_kept(alloc: Global, kept: &[Kept]) -> Result<Vec<Kept>, AllocError>
+fn copy_kept(alloc: Global, kept: &[WatchFlags]) -> Result<Vec<WatchFlags>, AllocError>
     ensures { IfOk result (λ copy. copy.items ≡ kept.now) }
 {
     let mut copy = Vec::with_capacity(alloc, kept.len())?;

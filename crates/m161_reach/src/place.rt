@@ -1,6 +1,6 @@
 //! A state of the exploration.
 
-use crate::kept::Kept;
+use crate::kept::WatchFlags;
 use m161_bus::Console;
 use m161_machine::Core;
 use m161_tlb::Tlb;
@@ -14,7 +14,7 @@ pub struct Place<T: Tlb, D: Console> {
     // How many keys were typed.
     pub(crate) typed: u32,
     // Of each watch.
-    pub(crate) kept: Vec<Kept>,
+    pub(crate) kept: Vec<WatchFlags>,
     // How many bytes the console has sent, where they are the first of the output that is asked for.
     pub(crate) agreed: Option<u32>,
 }

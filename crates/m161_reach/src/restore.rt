@@ -20,7 +20,7 @@ ghost use Rattle.m161_states.specs.System.{Explored, fresh};
 ghost use Rattle.m161_states.specs.Views.{beside_words, counted};
 ghost use Rattle.m161_reach.specs.helpers.Restore.{AreAsIn, AreKeptFrom, AreOfOneBoard, AreWordsFrom, IsAsIn, agreed_in, state_with, with_processors};
 
-use crate::kept::{Kept, keep_again};
+use crate::kept::{WatchFlags, keep_again};
 use m161_alike::{
     bounded_words_can_be_held, is_board_bounded, is_bounded, read_board, read_memory,
     read_processor,
@@ -260,7 +260,7 @@ fn optional(some: u32, number: u32) -> Option<u32>
 pub fn read_beside(
     alloc: Global,
     words: &[u32],
-) -> Result<(u32, Option<u32>, Vec<Kept>), AllocError>
+) -> Result<(u32, Option<u32>, Vec<WatchFlags>), AllocError>
     requires { 4 ≤ length words.now }
     ensures { IfOk result (λ beside. (x : Explored) → words.now ≡ beside_words x
         → (beside.0 ≡ x.typed) × (beside.1 ≡ x.agreed) × (beside.2.items ≡ x.flags)) }

@@ -4,7 +4,7 @@ use crate::hand::Hand;
 use crate::machines::Machines;
 use m161_bus::Console;
 use m161_explore::{Advanced, System};
-use m161_states::{Unknown, Verdict};
+use m161_states::{EventVerdict, Unknown};
 use m161_tlb::Tlb;
 use std::alloc::{AllocError, Global};
 
@@ -16,7 +16,7 @@ impl<'a, T: Tlb + Drop, D: Console + Drop> System for Machines<'a, T, D> {
 
     type State = Hand<T, D>;
 
-    type Verdict = Verdict;
+    type Verdict = EventVerdict;
 
     type Reason = Unknown;
 
@@ -46,7 +46,7 @@ impl<'a, T: Tlb + Drop, D: Console + Drop> System for Machines<'a, T, D> {
         &self,
         state: &mut Hand<T, D>,
         event: u32,
-    ) -> Result<Advanced<Verdict, Unknown>, AllocError> {
+    ) -> Result<Advanced<EventVerdict, Unknown>, AllocError> {
         Machines::advance(self, state, event)
     }
 

@@ -10,7 +10,7 @@ use m161_explore::{Answer, explore_with};
 use m161_judge::Goal;
 use m161_machine::Core;
 use m161_progress::{Listener, Nobody};
-use m161_states::{Known, Unknown, Verdict};
+use m161_states::{EventVerdict, Known, Unknown};
 use m161_tlb::Tlb;
 use std::alloc::{AllocError, Global};
 
@@ -20,7 +20,7 @@ pub struct Exploration {
     /// What was known of time: the states are told apart by it.
     pub known: Known,
     /// What holds of all lists of events.
-    pub answer: Answer<Verdict, Unknown>,
+    pub answer: Answer<EventVerdict, Unknown>,
 }
 
 /// Explores all states of a machine at boot, as long as they are no more than the limit. At first

@@ -11,7 +11,7 @@ use m161_progress::Nobody;
 use m161_reach::{
     Exploration, Machines, begin_machine, can_be_asked, explore_machine, first_hang, go_on_machine,
 };
-use m161_states::{Known, Reads, Unknown, Verdict};
+use m161_states::{EventVerdict, Known, Reads, Unknown};
 use m161_test_support::files::file_at;
 use m161_test_support::outcomes::ENTRY;
 use std::alloc::AllocGlobal;
@@ -111,7 +111,7 @@ fn found(
 }
 
 /// An answer by numbers: which one, the number of events, and the number of states.
-fn numbers(answer: &Answer<Verdict, Unknown>) -> (u32, usize, u32) {
+fn numbers(answer: &Answer<EventVerdict, Unknown>) -> (u32, usize, u32) {
     match answer {
         Answer::Clean { states } => (0, 0, *states),
         Answer::Found { events, states, .. } => (1, events.len(), *states),
@@ -170,7 +170,7 @@ fn a_machine_that_waits_is_stuck(rt: HostRuntime) -> Result<(), Fail> {
             states,
         } => {
             same(&rt, events.as_slice() == [0].as_slice(), true);
-            same(&rt, *verdict, Verdict::Stuck);
+            same(&rt, *verdict, EventVerdict::Stuck);
             same(&rt, *states, 1);
         }
         _ => same(&rt, "another answer", "a verdict"),

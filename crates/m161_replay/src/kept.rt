@@ -16,7 +16,7 @@ use std::alloc::{AllocError, Global};
 
 /// A state at a place of a run, and the processor of the last Step before it.
 #[derive(Drop)]
-pub(crate) struct Kept<T: Tlb, D: Console> {
+pub(crate) struct KeptState<T: Tlb, D: Console> {
     pub core: Box<Core<T, D>>,
     pub place: usize,
     pub last: u32,
@@ -35,19 +35,19 @@ pub(crate) fn last_after(event: Event, last: u32) -> u32
     }
 }
 
-impl<T: Tlb + Drop, D: Console + Drop> Kept<T, D> {
+impl<T: Tlb + Drop, D: Console + Drop> KeptState<T, D> {
     /// The state at the beginning.
     ///
     /// # Errors
     /// Memory was refused.
     #[inline(never)]
-    pub(crate) fn at_start(alloc: Global, start: &Core<T, D>) -> Result<Kept<T, D>, AllocError>
+    pub(crate) fn at_start(alloc: Global, start: &Core<T, D>) -> Result<KeptState<T, D>, AllocError>
         ensures at { IfOk result (λ kept. (list : List Event)
             → IsAt start.now.state list kept.place kept.last kept.core.value.state) }
         ensures place { IfOk result (λ kept. kept.place ≡ 0) }
     {
         let core = Box::new(alloc, start.copy(alloc)?)?;
-        Ok(Kept {
+        Ok(KeptState {
             core,
             place: 0,
             last: 0,
@@ -59,13 +59,13 @@ impl<T: Tlb + Drop, D: Console + Drop> Kept<T, D> {
     /// # Errors
     /// Memory was refused.
     #[inline(never)]
-    pub(crate) fn copy(&self, alloc: Global) -> Result<Kept<T, D>, AllocError>
+    pub(crate) fn copy(&self, alloc: Global) -> Result<KeptState<T, D>, AllocError>
         ensures state { IfOk result (λ kept. kept.core.value.state ≡ self.now.core.value.state) }
         ensures place { IfOk result (λ kept. kept.place ≡ self.now.place) }
         ensures last { IfOk result (λ kept. kept.last ≡ self.now.last) }
     {
         let core = Box::new(alloc, self.core.copy(alloc)?)?;
-        Ok(Kept {
+        Ok(KeptState {
             core,
             place: self.place,
             last: self.last,
@@ -73,7 +73,7 @@ impl<T: Tlb + Drop, D: Console + Drop> Kept<T, D> {
     }
 }
 
-impl<T: Tlb, D: Console> Kept<T, D> {
+impl<T: Tlb, D: Console> KeptState<T, D> {
     // Goes on by an event, which is accepted.
     #[inline(always)]
     fn advance(&mut self, event: Event) -> Result<(), AllocError>
@@ -121,7 +121,7 @@ pub(crate) fn keep_near<T: Tlb + Drop, D: Console + Drop>(
     alloc: Global,
     start: &Core<T, D>,
     list: &[Event],
-    kept: &mut Kept<T, D>,
+    kept: &mut KeptState<T, D>,
     to: usize,
 ) -> Result<(), AllocError>
     requires at { IsAt start.now.state list.now kept.old.place kept.old.last
@@ -132,7 +132,7 @@ pub(crate) fn keep_near<T: Tlb + Drop, D: Console + Drop>(
     ensures place { OnOk result ((kept.new.place ≤ to) × (to ≤ kept.new.place + 65536)) }
 {
     if kept.place > to {
-        *kept = Kept::at_start(alloc, start)?;
+        *kept = KeptState::at_start(alloc, start)?;
     }
     kept.go_on(list, to.saturating_sub(NEAR))
 }
@@ -145,7 +145,7 @@ pub(crate) fn state_at<T: Tlb + Drop, D: Console + Drop>(
     alloc: Global,
     start: &Core<T, D>,
     list: &[Event],
-    kept: &Kept<T, D>,
+    kept: &KeptState<T, D>,
     place: usize,
 ) -> Result<Box<Core<T, D>>, AllocError>
     requires at { IsAt start.now.state list.now kept.now.place kept.now.last
@@ -156,10 +156,10 @@ pub(crate) fn state_at<T: Tlb + Drop, D: Console + Drop>(
     let mut made = if kept.place <= place {
         kept.copy(alloc)?
     } else {
-        Kept::at_start(alloc, start)?
+        KeptState::at_start(alloc, start)?
     };
     made.go_on(list, place)?;
-    let Kept {
+    let KeptState {
         core,
         place: _,
         last: _,

@@ -3,7 +3,7 @@
 ghost use Rattle.std.specs.Prelude.{◌≡◌, ◌≤◌, IfOk, length, slice_get, string_bytes, take};
 ghost use Rattle.m161_replay.specs.Replays.{number_made, place_of, state_at, trace_before};
 
-use crate::kept::{Kept, keep_near, last_after, state_at};
+use crate::kept::{KeptState, keep_near, last_after, state_at};
 use crate::seen::event_seen;
 use crate::standing::{copied, is_over, make};
 use crate::traced::trace_from;
@@ -20,7 +20,7 @@ use std::marker::Model;
 pub struct Replay<T: Tlb, D: Console> {
     list: Vec<Event>,
     start: Box<Core<T, D>>,
-    kept: Kept<T, D>,
+    kept: KeptState<T, D>,
     here: Box<Core<T, D>>,
     place: usize,
     last: u32,
@@ -68,7 +68,7 @@ impl<T: Tlb + Drop, D: Console + Drop> Replay<T, D> {
             replay ≡ record { start = start.state; events = events.items; place = 0 }) }
     {
         let start = Box::new(alloc, start)?;
-        let kept = Kept::at_start(alloc, &*start)?;
+        let kept = KeptState::at_start(alloc, &*start)?;
         let here = copied(alloc, &*start)?;
         Ok(Replay {
             list: events,

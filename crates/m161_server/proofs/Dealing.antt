@@ -7,8 +7,8 @@ use Rattle.m161_gdb.specs.declared.link.Duty.TheVariants as duties
 use Rattle.m161_gdb.specs.declared.link.Link.{Link}
 use Rattle.m161_gdb.specs.Links.{HasReceived, HoldsBody, Receives}
 use Rattle.m161_moves.specs.Course.{Course}
-use Rattle.m161_server.specs.declared.fault.Fault.{Fault}
-use Rattle.m161_server.specs.declared.fault.Fault.TheVariants as faults
+use Rattle.m161_server.specs.declared.fault.ServerFault.{ServerFault}
+use Rattle.m161_server.specs.declared.fault.ServerFault.TheVariants as faults
 use Rattle.m161_server.specs.Sessions.{Standing}
 use Rattle.m161_server.specs.Serving.{DoesDuty, Progress, WritesAnswer, packet_in}
 use Rattle.m161_server.specs.helpers.Turns.{Deals, DoesAny, Turn, at}
@@ -25,7 +25,7 @@ kept old new past mode last h = record {
 
 turn_more :
     {E : Type 0} (Fails : E → Type 0) (A B : List ℕ → Bool → Type 0) (before after : Option (List ℕ))
-    (result : Result Bool (Fault E)) → ((text : List ℕ) (more : Bool) → A text more → B text more) →
+    (result : Result Bool (ServerFault E)) → ((text : List ℕ) (more : Bool) → A text more → B text more) →
     Turn Fails A before after result → Turn Fails B before after result
 turn_more Fails A B before after (Ok more) f t = (t.0, f t.0 more t.1, t.2)
 turn_more Fails A B before after (Err faults.Output) f t = (t.0, t.1, f t.0 t.1 t.2, t.3)
@@ -58,7 +58,7 @@ does_duty course (duties.Answer acknowledge) items.Interrupt past link x y sent 
 pub dealt :
     {E : Type 0} (Fails : E → Type 0) (course : Course) (item : Item) (past : List Item) (d : Duty)
     (x y : Standing) (old link new : Link) (before after : Option (List ℕ))
-    (result : Result Bool (Fault E)) → HasReceived old past → Receives old link item d →
+    (result : Result Bool (ServerFault E)) → HasReceived old past → Receives old link item d →
     link.sent.items ≡ old.sent.items → new.acknowledging ≡ link.acknowledging → new.last ≡ link.last →
     Turn Fails (λ text more. DoesAny course d link.last x link.sent.items text y new.sent.items more) before after result →
     Deals Fails course item past x old y new before after result

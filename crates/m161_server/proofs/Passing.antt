@@ -8,8 +8,8 @@ use Rattle.m161_gdb.specs.declared.link.Link.{Link}
 use Rattle.m161_gdb.specs.Frames.{HasRead}
 use Rattle.m161_gdb.specs.Links.{HasReceived}
 use Rattle.m161_moves.specs.Course.{Course}
-use Rattle.m161_server.specs.declared.fault.Fault.{Fault}
-use Rattle.m161_server.specs.declared.fault.Fault.TheVariants as faults
+use Rattle.m161_server.specs.declared.fault.ServerFault.{ServerFault}
+use Rattle.m161_server.specs.declared.fault.ServerFault.TheVariants as faults
 use Rattle.m161_server.specs.declared.serving.Talk.{Talk}
 use Rattle.m161_server.specs.declared.session.Session.{Session}
 use Rattle.m161_server.specs.Sessions.{standing}
@@ -92,7 +92,7 @@ module _ {E : Type 0} (Fails : E → Type 0) (course : Course) (place : ℕ) (in
       are_written = subst (λ o. Appends output o so_far.text) (sym t.written) so_far.are_written;
     }
 
-    one : (result : Result Bool (Fault E)) → TakesItem Fails course old new from to (so_far.bytes ++ byte ∷ []) so_far.past written w result → Serves Fails course place input output to new l w result
+    one : (result : Result Bool (ServerFault E)) → TakesItem Fails course old new from to (so_far.bytes ++ byte ∷ []) so_far.past written w result → Serves Fails course place input output to new l w result
     one (Ok true) t =
         let turn = t.deals.turn in record {
           bytes = so_far.bytes ++ byte ∷ [];
@@ -158,7 +158,7 @@ module _ {E : Type 0} (Fails : E → Type 0) (course : Course) (place : ℕ) (in
           are_written = subst (Appends output w) (sym (append-nil so_far.text)) (subst (λ o. Appends output o so_far.text) (sym turn.1) so_far.are_written);
         }
 
-    pub took : (result : Result Bool (Fault E)) → Takes Fails course old new from to (so_far.bytes ++ byte ∷ []) so_far.past written w result → Serves Fails course place input output to new l w result
+    pub took : (result : Result Bool (ServerFault E)) → Takes Fails course old new from to (so_far.bytes ++ byte ∷ []) so_far.past written w result → Serves Fails course place input output to new l w result
     took result (inl t) =
         subst (Serves Fails course place input output to new l w) (sym t.goes_on)
         (none (subst (TakesNone old new from to (so_far.bytes ++ byte ∷ []) so_far.past written w) t.goes_on t))
@@ -185,7 +185,7 @@ begins course place input output talk read received sent new = record {
 pub next :
     {E : Type 0} (Fails : Course → E → Type 0) (k course : Course) (place : ℕ) (input output : Option (List ℕ))
     (from : ℕ) (old : Talk) (left written : Option (List ℕ)) (to : ℕ) (new : Talk) (l w : Option (List ℕ))
-    (result : Result Bool (Fault E)) → k ≡ course →
+    (result : Result Bool (ServerFault E)) → k ≡ course →
     (Serving k place input output from old left written → Serves (Fails k) k place input output to new l w result) →
     Serving course place input output from old left written →
     Serves (Fails course) course place input output to new l w result

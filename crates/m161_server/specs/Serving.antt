@@ -12,8 +12,8 @@ use Rattle.m161_gdb.specs.Links.{duty}
 use Rattle.m161_gdb.specs.Packets.{packet_of}
 use Rattle.m161_gdb.specs.Stops.{no_stops}
 use Rattle.m161_moves.specs.Course.{Course}
-use Rattle.m161_server.specs.declared.fault.Fault.{Fault}
-use Rattle.m161_server.specs.declared.fault.Fault.TheVariants as faults
+use Rattle.m161_server.specs.declared.fault.ServerFault.{ServerFault}
+use Rattle.m161_server.specs.declared.fault.ServerFault.TheVariants as faults
 use Rattle.m161_server.specs.declared.session.Session.{Session}
 use Rattle.m161_server.specs.Sessions.{Answer, Answers, Standing, ends, standing}
 use Rattle.m161_server.specs.Streams.{Streams}
@@ -146,7 +146,7 @@ pub record EndsBehind (course : Course) (place : ℕ) (x : Streams) : Type 0 whe
 -- byte, for which memory was refused; a byte that makes an item, whose run can't be gone along; and one
 -- that makes an item whose answer can't be written, and a part of that
 abbrev pub IsBehind :
-    {E : Type 0} → (E → Type 0) → Course → Fault E → List ℕ → List Item → Progress → List ℕ → List ℕ →
+    {E : Type 0} → (E → Type 0) → Course → ServerFault E → List ℕ → List Item → Progress → List ℕ → List ℕ →
     Type 0
 IsBehind Fails course faults.Input bytes past p read written = (read ≡ []) × (written ≡ [])
 IsBehind Fails course faults.Memory bytes past p read written =
@@ -162,7 +162,7 @@ IsBehind Fails course faults.Output bytes past p read written =
 
 -- a fault ended a session
 pub record Breaks
-    {E : Type 0} (Fails : E → Type 0) (course : Course) (place : ℕ) (x : Streams) (fault : Fault E)
+    {E : Type 0} (Fails : E → Type 0) (course : Course) (place : ℕ) (x : Streams) (fault : ServerFault E)
     : Type 0 where
   pub bytes : List ℕ
   pub past : List Item

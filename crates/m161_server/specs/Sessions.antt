@@ -20,8 +20,8 @@ use Rattle.m161_moves.specs.Moves.{StopsBackwards, StopsForwards}
 use Rattle.m161_moves.specs.Scenes.{Scene}
 use Rattle.m161_moves.specs.Threads.{thread_of}
 use Rattle.m161_text.specs.Parts.{hex_text}
-use Rattle.m161_server.specs.declared.fault.Fault.{Fault}
-use Rattle.m161_server.specs.declared.fault.Fault.TheVariants as faults
+use Rattle.m161_server.specs.declared.fault.ServerFault.{ServerFault}
+use Rattle.m161_server.specs.declared.fault.ServerFault.TheVariants as faults
 use Rattle.m161_server.specs.declared.session.LastStop.{LastStop}
 use Rattle.m161_server.specs.declared.session.Session.{Session}
 use Rattle.m161_server.specs.Descriptions.{description}
@@ -246,7 +246,7 @@ ends packets.Kill = true
 ends _ = false
 
 -- why a packet isn't answered: memory was refused, or the run can't be gone along
-abbrev pub IsUnanswered : {E : Type 0} → (E → Type 0) → Fault E → Type 0
+abbrev pub IsUnanswered : {E : Type 0} → (E → Type 0) → ServerFault E → Type 0
 IsUnanswered Fails faults.Input = ⊥
 IsUnanswered Fails faults.Output = ⊥
 IsUnanswered Fails faults.Memory = Unit {0}

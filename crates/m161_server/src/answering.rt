@@ -9,7 +9,7 @@ ghost use Rattle.m161_server.specs.helpers.Kinds.{is_still};
 
 use crate::choosing::{choose_control, choose_general, has_thread, ok_or};
 use crate::description::description;
-use crate::fault::Fault;
+use crate::fault::ServerFault;
 use crate::monitor::monitor;
 use crate::moving::{move_back, move_on, resume};
 use crate::registers::{memory_text, part_text, word_or, words_text};
@@ -202,7 +202,7 @@ pub fn answer<T: Target>(
     target: &mut T,
     session: &mut Session,
     packet: &Packet,
-) -> Result<Reply, Fault<T::Error>>
+) -> Result<Reply, ServerFault<T::Error>>
     ensures course { T.course target.new ≡ T.course target.old }
     ensures ok { IfOk result (λ reply. Answers (T.course target.old) packet.now
         (standing (T.place target.old) session.old) reply (standing (T.place target.new) session.new)) }

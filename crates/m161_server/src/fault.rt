@@ -4,7 +4,7 @@ use std::alloc::AllocError;
 
 /// Why a session ends early.
 #[derive(Drop)]
-pub enum Fault<E> {
+pub enum ServerFault<E> {
     /// The input can't be read.
     Input,
     /// The output failed.
@@ -15,13 +15,13 @@ pub enum Fault<E> {
     Run(E),
 }
 
-impl<E> From<AllocError> for Fault<E> {
+impl<E> From<AllocError> for ServerFault<E> {
     ghost use Rattle.std.specs.Prelude.{◌≡◌};
-    ghost use Rattle.m161_server.specs.declared.fault.Fault.TheVariants.{Memory};
+    ghost use Rattle.m161_server.specs.declared.fault.ServerFault.TheVariants.{Memory};
 
     ghost from_gives = { λ _ fault. fault ≡ Memory };
 
-    fn from(_error: AllocError) -> Fault<E> {
-        Fault::Memory
+    fn from(_error: AllocError) -> ServerFault<E> {
+        ServerFault::Memory
     }
 }

@@ -27,7 +27,7 @@ mod texts;
 mod words;
 
 pub use answering::answer;
-pub use fault::Fault;
+pub use fault::ServerFault;
 pub use laws::{has_answer, has_one_answer, has_one_text};
 pub use reply::Reply;
 pub use serving::serve;

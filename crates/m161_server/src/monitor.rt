@@ -6,7 +6,7 @@ ghost use Rattle.m161_server.specs.Sessions.{standing, IsUnanswered, Monitors};
 ghost use Rattle.m161_server.specs.helpers.Kinds.{is_short};
 ghost use Rattle.m161_server.specs.Words.{asked_of};
 
-use crate::fault::Fault;
+use crate::fault::ServerFault;
 use crate::outgoing::shown_packets;
 use crate::reply::Reply;
 use crate::session::Session;
@@ -278,7 +278,11 @@ fn output_text<T: Target>(alloc: Global, target: &T) -> Result<Vec<u8>, AllocErr
 }
 
 // The lines of the last events.
-fn trace_text<T: Target>(alloc: Global, target: &T, number: u32) -> Result<String, Fault<T::Error>>
+fn trace_text<T: Target>(
+    alloc: Global,
+    target: &T,
+    number: u32,
+) -> Result<String, ServerFault<T::Error>>
     ensures ok { IfOk result (λ text. string_bytes text
         ≡ trace_text (T.course target.now).scene (T.place target.now) number) }
     ensures err { IfErr result (IsUnanswered (T.fails (T.course target.now))) }
@@ -288,7 +292,7 @@ fn trace_text<T: Target>(alloc: Global, target: &T, number: u32) -> Result<Strin
     }
     match target.trace_text(alloc, number) {
         Ok(text) => Ok(text),
-        Err(error) => Err(Fault::Run(error)),
+        Err(error) => Err(ServerFault::Run(error)),
     }
 }
 
@@ -326,7 +330,7 @@ fn monitor_text<T: Target>(
     target: &T,
     session: &Session,
     asked: Asked,
-) -> Result<Vec<u8>, Fault<T::Error>>
+) -> Result<Vec<u8>, ServerFault<T::Error>>
     ensures ok { IfOk result (λ bytes. bytes.items
         ≡ monitor_text (T.course target.now).scene (T.place target.now) session.now asked) }
     ensures err { IfErr result (IsUnanswered (T.fails (T.course target.now))) }
@@ -357,7 +361,7 @@ pub(crate) fn monitor<T: Target>(
     target: &T,
     session: &mut Session,
     line: &[u8],
-) -> Result<Reply, Fault<T::Error>>
+) -> Result<Reply, ServerFault<T::Error>>
     ensures ok { IfOk result (λ reply. Monitors (T.course target.now).scene line.now
         (standing (T.place target.now) session.old) reply (standing (T.place target.now) session.new)) }
     ensures err { IfErr result (IsUnanswered (T.fails (T.course target.now))) }

@@ -4,7 +4,7 @@ ghost use Rattle.std.specs.Prelude.{◌≡◌, ◌<◌, ◌^◌, IfErr, IfOk, dr
 ghost use Rattle.m161_server.specs.Sessions.{has_threads, moved, standing, stops_behind, MovesBack, MovesOn, Resumes, Settles, chosen_by, chosen_of, IsUnanswered};
 
 use crate::choosing::{chosen_by, chosen_of, has_threads};
-use crate::fault::Fault;
+use crate::fault::ServerFault;
 use crate::outgoing::shown_packets;
 use crate::reply::{Reply, tell};
 use crate::session::{LastStop, Session};
@@ -76,7 +76,7 @@ fn go_on<T: Target>(
     target: &mut T,
     session: &mut Session,
     chosen: &[Option<Motion>],
-) -> Result<Reply, Fault<T::Error>>
+) -> Result<Reply, ServerFault<T::Error>>
     requires { length chosen.now < 2 ^ 32 }
     ensures course { T.course target.new ≡ T.course target.old }
     ensures ok { IfOk result (λ reply. MovesOn (T.course target.old) chosen.now
@@ -85,7 +85,7 @@ fn go_on<T: Target>(
 {
     let reason = match forwards(target, &session.stops, chosen) {
         Ok(reason) => reason,
-        Err(error) => return Err(Fault::Run(error)),
+        Err(error) => return Err(ServerFault::Run(error)),
     };
     Ok(settle(alloc, target, session, chosen, reason)?)
 }
@@ -96,7 +96,7 @@ fn go_back<T: Target>(
     target: &mut T,
     session: &mut Session,
     chosen: &[Option<Motion>],
-) -> Result<Reply, Fault<T::Error>>
+) -> Result<Reply, ServerFault<T::Error>>
     requires { length chosen.now < 2 ^ 32 }
     ensures course { T.course target.new ≡ T.course target.old }
     ensures ok { IfOk result (λ reply. MovesBack (T.course target.old) chosen.now
@@ -105,7 +105,7 @@ fn go_back<T: Target>(
 {
     let reason = match backwards(target, &session.stops, chosen) {
         Ok(reason) => reason,
-        Err(error) => return Err(Fault::Run(error)),
+        Err(error) => return Err(ServerFault::Run(error)),
     };
     Ok(settle(alloc, target, session, chosen, reason)?)
 }
@@ -119,7 +119,7 @@ pub(crate) fn move_on<T: Target>(
     target: &mut T,
     session: &mut Session,
     motion: Motion,
-) -> Result<Reply, Fault<T::Error>>
+) -> Result<Reply, ServerFault<T::Error>>
     ensures course { T.course target.new ≡ T.course target.old }
     ensures ok { IfOk result (λ reply. MovesOn (T.course target.old)
         (chosen_by (T.course target.old).scene session.old motion)
@@ -139,7 +139,7 @@ pub(crate) fn move_back<T: Target>(
     target: &mut T,
     session: &mut Session,
     motion: Motion,
-) -> Result<Reply, Fault<T::Error>>
+) -> Result<Reply, ServerFault<T::Error>>
     ensures course { T.course target.new ≡ T.course target.old }
     ensures ok { IfOk result (λ reply. MovesBack (T.course target.old)
         (chosen_by (T.course target.old).scene session.old motion)
@@ -156,7 +156,7 @@ fn move_by<T: Target>(
     target: &mut T,
     session: &mut Session,
     actions: &Actions,
-) -> Result<Reply, Fault<T::Error>>
+) -> Result<Reply, ServerFault<T::Error>>
     ensures course { T.course target.new ≡ T.course target.old }
     ensures ok { IfOk result (λ reply. MovesOn (T.course target.old)
         (chosen_of (T.course target.old).scene actions.now)
@@ -176,7 +176,7 @@ pub(crate) fn resume<T: Target>(
     target: &mut T,
     session: &mut Session,
     actions: &Actions,
-) -> Result<Reply, Fault<T::Error>>
+) -> Result<Reply, ServerFault<T::Error>>
     ensures course { T.course target.new ≡ T.course target.old }
     ensures ok { IfOk result (λ reply. Resumes (has_threads (T.course target.old).scene actions.now)
         (T.course target.old) actions.now (standing (T.place target.old) session.old) reply

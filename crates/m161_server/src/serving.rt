@@ -10,7 +10,7 @@ ghost use Rattle.m161_server.specs.Streams.{streams};
 ghost use Rattle.m161_server.specs.helpers.Turns.{Deals, DoesAny, Serves, Serving, Takes, Turn};
 
 use crate::answering::answer;
-use crate::fault::Fault;
+use crate::fault::ServerFault;
 use crate::reply::Reply;
 use crate::session::Session;
 use crate::streams::{read_byte, send};
@@ -107,7 +107,7 @@ fn answer_body<T: Target, O: Write>(
     session: &mut Session,
     acknowledge: bool,
     output: &mut O,
-) -> Result<bool, Fault<T::Error>>
+) -> Result<bool, ServerFault<T::Error>>
     ensures course { T.course target.new ≡ T.course target.old }
     ensures acknowledging { link.new.acknowledging ≡ link.old.acknowledging }
     ensures last { link.new.last ≡ link.old.last }
@@ -139,7 +139,7 @@ fn do_duty<T: Target, O: Write>(
     session: &mut Session,
     duty: Duty,
     output: &mut O,
-) -> Result<bool, Fault<T::Error>>
+) -> Result<bool, ServerFault<T::Error>>
     ensures course { T.course target.new ≡ T.course target.old }
     ensures acknowledging { link.new.acknowledging ≡ link.old.acknowledging }
     ensures last { link.new.last ≡ link.old.last }
@@ -176,7 +176,7 @@ fn do_item<T: Target, O: Write>(
     session: &mut Session,
     item: Item,
     output: &mut O,
-) -> Result<bool, Fault<T::Error>>
+) -> Result<bool, ServerFault<T::Error>>
     ensures course { T.course target.new ≡ T.course target.old }
     ensures deals { (past : List Item) → HasReceived link.old past → Deals (T.fails (T.course target.old))
         (T.course target.old) item past (standing (T.place target.old) session.old) link.old
@@ -194,7 +194,7 @@ fn take_byte<T: Target, O: Write>(
     talk: &mut Talk,
     byte: u8,
     output: &mut O,
-) -> Result<bool, Fault<T::Error>>
+) -> Result<bool, ServerFault<T::Error>>
     ensures course { T.course target.new ≡ T.course target.old }
     ensures takes { (bytes : List ℕ) (past : List Item) → HasRead talk.old.reader bytes (in_order past) →
         HasReceived talk.old.link past → Takes (T.fails (T.course target.old)) (T.course target.old)
@@ -221,7 +221,7 @@ fn turn<T: Target, I: Read, O: Write>(
     talk: &mut Talk,
     input: &mut I,
     output: &mut O,
-) -> Result<bool, Fault<T::Error>>
+) -> Result<bool, ServerFault<T::Error>>
     ensures course { T.course target.new ≡ T.course target.old }
     ensures serves { (place : ℕ) (before written : Option (List ℕ)) → Serving (T.course target.old) place before
         written (T.place target.old) talk.old (I.remaining input.old) (O.contents output.old) →
@@ -247,7 +247,7 @@ pub fn serve<T: Target, I: Read, O: Write>(
     target: &mut T,
     input: &mut I,
     output: &mut O,
-) -> Result<(), Fault<T::Error>>
+) -> Result<(), ServerFault<T::Error>>
     ensures course { T.course target.new ≡ T.course target.old }
     ensures ok { OnOk result (Ends (T.course target.old) (T.place target.old) (streams
         (I.remaining input.old) (I.remaining input.new) (O.contents output.old)
@@ -266,5 +266,5 @@ pub fn serve<T: Target, I: Read, O: Write>(
             return Ok(());
         }
     }
-    Err(Fault::Input)
+    Err(ServerFault::Input)
 }

@@ -10,8 +10,8 @@ use Rattle.m161_machine.specs.StoreHistory.{StoreState, live_state}
 use Rattle.m161_machine.specs.Uses.{uses_in}
 use Rattle.m161_audit.specs.declared.watch.Watch.{Watch}
 use Rattle.m161_audit.specs.Stale.{IsStaleFor, IsStaleVia, UsesStale, entry_in, is_old}
-use Rattle.m161_states.specs.declared.verdict.Verdict.{Verdict}
-use Rattle.m161_states.specs.declared.verdict.Verdict.TheVariants.{Stale}
+use Rattle.m161_states.specs.declared.verdict.EventVerdict.{EventVerdict}
+use Rattle.m161_states.specs.declared.verdict.EventVerdict.TheVariants.{Stale}
 use Rattle.m161_states.specs.Question.{Question}
 use Rattle.m161_states.specs.System.{Explored, Flags, fresh}
 use Rattle.m161_states.specs.Verdicts.{is_old_row, is_stale_for, some_watch, stale_use, stale_via}
@@ -167,22 +167,22 @@ module _ (q : Question) (events : List Event) (s : StoreState) (x : Explored) (p
 
   -- and what is found is a use
 
-  abbrev IsUse : Option Via → Verdict → Type 0
+  abbrev IsUse : Option Via → EventVerdict → Type 0
   IsUse o u = (v : Via) × (o ≡ Some v) × (u ≡ Stale p v.address v.row) × IsStaleVia s q.goal.watches p v
 
-  via_by : (v : Via) (u : Verdict) (t : Bool) → is_one v ≡ t → (if t then Some (Stale p v.address v.row) else None) ≡ Some u → IsUse (Some v) u
+  via_by : (v : Via) (u : EventVerdict) (t : Bool) → is_one v ≡ t → (if t then Some (Stale p v.address v.row) else None) ≡ Some u → IsUse (Some v) u
   via_by v u true is h =
-      (v, refl, (let e : ◌≡◌ {A = Option Verdict} (Some (Stale p v.address v.row)) (Some u) = h in let f : Stale p v.address v.row ≡ u = cc in sym f), is_stale v is)
-  via_by v u false is h = absurd (let bad : ◌≡◌ {A = Option Verdict} None (Some u) = h in cc)
+      (v, refl, (let e : ◌≡◌ {A = Option EventVerdict} (Some (Stale p v.address v.row)) (Some u) = h in let f : Stale p v.address v.row ≡ u = cc in sym f), is_stale v is)
+  via_by v u false is h = absurd (let bad : ◌≡◌ {A = Option EventVerdict} None (Some u) = h in cc)
 
-  via_is : (o : Option Via) (u : Verdict) → stale_via q.goal x p o ≡ Some u → IsUse o u
-  via_is None u h = absurd (let bad : ◌≡◌ {A = Option Verdict} None (Some u) = h in cc)
+  via_is : (o : Option Via) (u : EventVerdict) → stale_via q.goal x p o ≡ Some u → IsUse o u
+  via_is None u h = absurd (let bad : ◌≡◌ {A = Option EventVerdict} None (Some u) = h in cc)
   via_is (Some v) u h = via_by v u (is_one v) refl h
 
   no_use : (o : Option Via) → stale_via q.goal x p o ≡ None → (v : Via) → o ≡ Some v → IsStaleVia s q.goal.watches p v → ⊥
-  no_use o h v e stale = let bad : ◌≡◌ {A = Option Verdict} None (Some (Stale p v.address v.row)) = sym h ∙ via_found o v e stale in cc
+  no_use o h v e stale = let bad : ◌≡◌ {A = Option EventVerdict} None (Some (Stale p v.address v.row)) = sym h ∙ via_found o v e stale in cc
 
-  use_by : (u : Verdict) (f a : Option Verdict) → stale_via q.goal x p (uses_in p x.state).fetch ≡ f → stale_via q.goal x p (uses_in p x.state).access ≡ a →
+  use_by : (u : EventVerdict) (f a : Option EventVerdict) → stale_via q.goal x p (uses_in p x.state).fetch ≡ f → stale_via q.goal x p (uses_in p x.state).access ≡ a →
       option_or f a ≡ Some u → (v : Via) × (u ≡ Stale p v.address v.row) × UsesStale s q.goal.watches p v
   use_by u (Some g) a is_f is_a h =
       let found = via_is (uses_in p x.state).fetch u (is_f ∙ h) in
@@ -191,10 +191,10 @@ module _ (q : Question) (events : List Event) (s : StoreState) (x : Explored) (p
       let found = via_is (uses_in p x.state).access u (is_a ∙ h) in
       (found.0, found.2, inr (λ f e stale. no_use (uses_in p x.state).fetch is_f f (fetch_is ∙ e) stale, sym access_is ∙ found.1, found.3))
 
-  use_is : (u : Verdict) → stale_use q.goal x p ≡ Some u → (v : Via) × (u ≡ Stale p v.address v.row) × UsesStale s q.goal.watches p v
+  use_is : (u : EventVerdict) → stale_use q.goal x p ≡ Some u → (v : Via) × (u ≡ Stale p v.address v.row) × UsesStale s q.goal.watches p v
   use_is u h = use_by u (stale_via q.goal x p (uses_in p x.state).fetch) (stale_via q.goal x p (uses_in p x.state).access) refl refl h
 
-pub use_told : (q : Question) (events : List Event) (s : StoreState) (x : Explored) (p : ℕ) → IsBehind q events s x → (u : Verdict) → stale_use q.goal x p ≡ Some u →
+pub use_told : (q : Question) (events : List Event) (s : StoreState) (x : Explored) (p : ℕ) → IsBehind q events s x → (u : EventVerdict) → stale_use q.goal x p ≡ Some u →
     (v : Via) × (u ≡ Stale p v.address v.row) × UsesStale s q.goal.watches p v
 use_told q events s x p b u h = use_is q events s x p b u h
 

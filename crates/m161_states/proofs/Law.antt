@@ -22,7 +22,7 @@ use Rattle.m161_alike.specs.View.{AreAlike, known_of}
 use Rattle.m161_alike.specs.Law.{AlikeLaw, AnswersAlike, BehaveAlike, LookAlike, ReadsWithin, UsesAlike, sent_by}
 use Rattle.m161_alike.specs.WordsLaw.{ViewLaw}
 use Rattle.m161_states.specs.declared.verdict.Unknown.{Unknown}
-use Rattle.m161_states.specs.declared.verdict.Verdict.TheVariants.{Conflict, Output, Stale, Stuck}
+use Rattle.m161_states.specs.declared.verdict.EventVerdict.TheVariants.{Conflict, Output, Stale, Stuck}
 use Rattle.m161_states.specs.Question.{Question, processors_of}
 use Rattle.m161_states.specs.System.{Explored, accepted, agreed_after, behind, event_of, flags_behind, fresh, next_by, stored_by, stored_if, stored_of, typed_after}
 use Rattle.m161_states.specs.Verdicts.{has_sent, is_end, is_old_row, is_outside, is_stuck_in, judged, reached_at, reached_by, some_watch, stale_use, stale_via, stop, stop_by, unknown_by, verdict_by, wrong_in, wrong_with}

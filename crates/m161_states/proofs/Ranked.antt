@@ -14,8 +14,8 @@ use Rattle.m161_machine.specs.StoreHistory.{live_state}
 use Rattle.m161_audit.specs.Stale.{UsesStale, after_event}
 use Rattle.m161_judge.specs.Verdict.{HasSent, has_keys, is_stuck}
 use Rattle.m161_alike.specs.Law.{SentLaw}
-use Rattle.m161_states.specs.declared.verdict.Verdict.{Verdict}
-use Rattle.m161_states.specs.declared.verdict.Verdict.TheVariants.{Conflict, Output, Reached, Stale, Stuck}
+use Rattle.m161_states.specs.declared.verdict.EventVerdict.{EventVerdict}
+use Rattle.m161_states.specs.declared.verdict.EventVerdict.TheVariants.{Conflict, Output, Reached, Stale, Stuck}
 use Rattle.m161_states.specs.Question.{Question}
 use Rattle.m161_states.specs.System.{Explored, behind, fresh}
 use Rattle.m161_states.specs.Verdicts.{conflict_in, has_sent, is_stuck_in, judged, output_in, reached_by, stale_use, stuck_in, verdict_by, wrong_in, wrong_with}
@@ -29,14 +29,14 @@ use Rattle.m161_states.proofs.Followed.{follows_to, freshened_is, image_behind, 
 
 -- one kind, or some that follow one another
 
-abbrev IsTest : Question → Made → ℕ → Option Verdict → Type 0
-IsTest q m k o = ((v : Verdict) → o ≡ Some v → (rank v ≡ k) × IsWrong q m v) × (o ≡ None → (w : Verdict) → rank w ≡ k → IsWrong q m w → ⊥)
+abbrev IsTest : Question → Made → ℕ → Option EventVerdict → Type 0
+IsTest q m k o = ((v : EventVerdict) → o ≡ Some v → (rank v ≡ k) × IsWrong q m v) × (o ≡ None → (w : EventVerdict) → rank w ≡ k → IsWrong q m w → ⊥)
 
-abbrev AreTests : Question → Made → ℕ → ℕ → Option Verdict → Type 0
-AreTests q m low high None = (w : Verdict) → low ≤ rank w → rank w < high → IsWrong q m w → ⊥
-AreTests q m low high (Some v) = (low ≤ rank v) × IsWrong q m v × ((w : Verdict) → low ≤ rank w → rank w < rank v → IsWrong q m w → ⊥)
+abbrev AreTests : Question → Made → ℕ → ℕ → Option EventVerdict → Type 0
+AreTests q m low high None = (w : EventVerdict) → low ≤ rank w → rank w < high → IsWrong q m w → ⊥
+AreTests q m low high (Some v) = (low ≤ rank v) × IsWrong q m v × ((w : EventVerdict) → low ≤ rank w → rank w < rank v → IsWrong q m w → ⊥)
 
-one_test : (q : Question) (m : Made) (k : ℕ) (o : Option Verdict) → IsTest q m k o → AreTests q m k (k + 1) o
+one_test : (q : Question) (m : Made) (k : ℕ) (o : Option EventVerdict) → IsTest q m k o → AreTests q m k (k + 1) o
 one_test q m k None h = λ w low high wrong. h.1 refl w (omega (arith, low, high)) wrong
 one_test q m k (Some v) h =
     let found = h.0 v refl in
@@ -53,11 +53,11 @@ below_or (suc a) (suc b) = up (below_or a b)
     up (inl h) = inl (omega (arith, h))
     up (inr h) = inr (omega (arith, h))
 
-by_side : (q : Question) (m : Made) (low mid : ℕ) (w : Verdict) → AreTests q m low mid None → low ≤ rank w → (mid ≤ rank w → ⊥) → IsWrong q m w → (rank w < mid) ⊎ (mid ≤ rank w) → ⊥
+by_side : (q : Question) (m : Made) (low mid : ℕ) (w : EventVerdict) → AreTests q m low mid None → low ≤ rank w → (mid ≤ rank w → ⊥) → IsWrong q m w → (rank w < mid) ⊎ (mid ≤ rank w) → ⊥
 by_side q m low mid w none from_low past wrong (inl h) = none w from_low h wrong
 by_side q m low mid w none from_low past wrong (inr h) = past h
 
-both_tests : (q : Question) (m : Made) (low mid high : ℕ) (o r : Option Verdict) → low ≤ mid → AreTests q m low mid o → AreTests q m mid high r → AreTests q m low high (option_or o r)
+both_tests : (q : Question) (m : Made) (low mid high : ℕ) (o r : Option EventVerdict) → low ≤ mid → AreTests q m low mid o → AreTests q m mid high r → AreTests q m low high (option_or o r)
 both_tests q m low mid high (Some v) r le a b = a
 both_tests q m low mid high None None le a b =
     λ w from_low less wrong. by_side q m low mid w a from_low (λ past. b w past less wrong) wrong (below_or (rank w) mid)
@@ -65,10 +65,10 @@ both_tests q m low mid high None (Some v) le a b =
     let past_mid = b.0 in
     (omega (arith, le, past_mid), b.1, λ w from_low less wrong. by_side q m low mid w a from_low (λ past. b.2 w past less wrong) wrong (below_or (rank w) mid))
 
-all_tests : (q : Question) (m : Made) (o : Option Verdict) → AreTests q m 0 5 o → IsFirstWrong q m o
+all_tests : (q : Question) (m : Made) (o : Option EventVerdict) → AreTests q m 0 5 o → IsFirstWrong q m o
 all_tests q m None h = λ v wrong. h v (omega arith) (small v) wrong
   where
-    small : (v : Verdict) → rank v < 5
+    small : (v : EventVerdict) → rank v < 5
     small (Stale p address row) = omega arith
     small (Reached p address) = omega arith
     small (Conflict conflict) = omega arith
@@ -76,19 +76,19 @@ all_tests q m None h = λ v wrong. h v (omega arith) (small v) wrong
     small Output = omega arith
 all_tests q m (Some v) h = (h.1, λ w less wrong. h.2 w (omega arith) less wrong)
 
-some_is : (a b : Verdict) → ◌≡◌ {A = Option Verdict} (Some a) (Some b) → a ≡ b
+some_is : (a b : EventVerdict) → ◌≡◌ {A = Option EventVerdict} (Some a) (Some b) → a ≡ b
 some_is a b h = cc
 
 -- an option by a test
 
-test_by : (q : Question) (m : Made) (k : ℕ) (v : Verdict) (t : Bool) → rank v ≡ k → (t ≡ true → IsWrong q m v) →
-    (t ≡ false → (w : Verdict) → rank w ≡ k → IsWrong q m w → ⊥) → IsTest q m k (if t then Some v else None)
+test_by : (q : Question) (m : Made) (k : ℕ) (v : EventVerdict) (t : Bool) → rank v ≡ k → (t ≡ true → IsWrong q m v) →
+    (t ≡ false → (w : EventVerdict) → rank w ≡ k → IsWrong q m w → ⊥) → IsTest q m k (if t then Some v else None)
 test_by q m k v true is hold miss = (
   λ u h. let same : v ≡ u = some_is v u h in subst (λ y. (rank y ≡ k) × IsWrong q m y) same (is, hold refl),
-  λ h. absurd (let bad : ◌≡◌ {A = Option Verdict} (Some v) None = h in cc),
+  λ h. absurd (let bad : ◌≡◌ {A = Option EventVerdict} (Some v) None = h in cc),
 )
 test_by q m k v false is hold miss = (
-  λ u h. absurd (let bad : ◌≡◌ {A = Option Verdict} None (Some u) = h in cc),
+  λ u h. absurd (let bad : ◌≡◌ {A = Option EventVerdict} None (Some u) = h in cc),
   λ h w r wrong. miss refl w r wrong,
 )
 
@@ -158,7 +158,7 @@ module _ (law : SentLaw) (q : Question) (m : Made) (x : Explored) (a : Outcome �
 
   -- output
 
-  output_missed : (is_some q.goal.output && a.1.board.off && not sent) ≡ false → (w : Verdict) → rank w ≡ 4 → IsWrong q m w → ⊥
+  output_missed : (is_some q.goal.output && a.1.board.off && not sent) ≡ false → (w : EventVerdict) → rank w ≡ 4 → IsWrong q m w → ⊥
   output_missed t Output r wrong =
       both_and (is_some q.goal.output && a.1.board.off) (not sent)
       (λ i. two (is_asked q.goal.output wrong.0 i) ((off_is ∙ wrong.1) i)) (is_not sent (λ e. wrong.2 (sent_is e))) t
@@ -181,7 +181,7 @@ module _ (law : SentLaw) (q : Question) (m : Made) (x : Explored) (a : Outcome �
 
   -- stuck
 
-  stuck_missed : (is_stuck_in q.goal (behind q.goal x m.event a.1) && not sent) ≡ false → (w : Verdict) → rank w ≡ 3 → IsWrong q m w → ⊥
+  stuck_missed : (is_stuck_in q.goal (behind q.goal x m.event a.1) && not sent) ≡ false → (w : EventVerdict) → rank w ≡ 3 → IsWrong q m w → ⊥
   stuck_missed t Stuck r wrong =
       both_and (is_stuck_in q.goal (behind q.goal x m.event a.1)) (not sent) (stuck_is ∙ wrong.0) (is_not sent (λ e. wrong.1 (sent_is e))) t
   stuck_missed t (Stale p address row) r wrong = omega (arith, r)
@@ -199,7 +199,7 @@ module _ (law : SentLaw) (q : Question) (m : Made) (x : Explored) (a : Outcome �
 
   -- conflict
 
-  conflict_missed : ((c : ConflictOf) → m.behind.board.off ≡ true → m.behind.conflict ≡ Some c → ⊥) → (w : Verdict) → rank w ≡ 2 → IsWrong q m w → ⊥
+  conflict_missed : ((c : ConflictOf) → m.behind.board.off ≡ true → m.behind.conflict ≡ Some c → ⊥) → (w : EventVerdict) → rank w ≡ 2 → IsWrong q m w → ⊥
   conflict_missed none (Conflict c) r wrong = none c wrong.0 wrong.1
   conflict_missed none (Stale p address row) r wrong = omega (arith, r)
   conflict_missed none (Reached p address) r wrong = omega (arith, r)
@@ -210,14 +210,14 @@ module _ (law : SentLaw) (q : Question) (m : Made) (x : Explored) (a : Outcome �
   conflict_by true (Some c) is_off is_c = (
     λ u e. let kind : Conflict c ≡ u = some_is (Conflict c) u e in
         subst (λ v. (rank v ≡ 2) × IsWrong q m v) kind (refl, (sym off_is ∙ is_off, sym conflict_is ∙ is_c)),
-    λ e. absurd (let bad : ◌≡◌ {A = Option Verdict} (Some (Conflict c)) None = e in cc),
+    λ e. absurd (let bad : ◌≡◌ {A = Option EventVerdict} (Some (Conflict c)) None = e in cc),
   )
   conflict_by true None is_off is_c = (
-    λ u e. absurd (let bad : ◌≡◌ {A = Option Verdict} None (Some u) = e in cc),
+    λ u e. absurd (let bad : ◌≡◌ {A = Option EventVerdict} None (Some u) = e in cc),
     λ e. conflict_missed (λ c off is. let bad : ◌≡◌ {A = Option ConflictOf} None (Some c) = sym is_c ∙ conflict_is ∙ is in cc),
   )
   conflict_by false c is_off is_c = (
-    λ u e. absurd (let bad : ◌≡◌ {A = Option Verdict} None (Some u) = e in cc),
+    λ u e. absurd (let bad : ◌≡◌ {A = Option EventVerdict} None (Some u) = e in cc),
     λ e. conflict_missed (λ d off is. let bad : false ≡ true = sym is_off ∙ off_is ∙ off in cc),
   )
 
@@ -227,18 +227,18 @@ module _ (law : SentLaw) (q : Question) (m : Made) (x : Explored) (a : Outcome �
   -- stale and reached
 
   module _ (p : ℕ) (is : m.event ≡ Step p) where
-    stale_missed : stale_use q.goal x p ≡ None → (w : Verdict) → rank w ≡ 0 → IsWrong q m w → ⊥
+    stale_missed : stale_use q.goal x p ≡ None → (w : EventVerdict) → rank w ≡ 0 → IsWrong q m w → ⊥
     stale_missed none (Stale r address row) k wrong =
         let p_is : p ≡ r = step_is p r (sym is ∙ wrong.3.event_is) in
         let uses : UsesStale m.before q.goal.watches p wrong.0 = subst (λ n. UsesStale m.before q.goal.watches n wrong.0) (sym p_is) wrong.3.uses in
         let found = (stale_is_audited q m.events m.before x p b).found wrong.0 uses in
-        let bad : ◌≡◌ {A = Option Verdict} None (Some (Stale p wrong.0.address wrong.0.row)) = sym none ∙ found in cc
+        let bad : ◌≡◌ {A = Option EventVerdict} None (Some (Stale p wrong.0.address wrong.0.row)) = sym none ∙ found in cc
     stale_missed none (Reached r address) k wrong = omega (arith, k)
     stale_missed none (Conflict conflict) k wrong = omega (arith, k)
     stale_missed none Stuck k wrong = omega (arith, k)
     stale_missed none Output k wrong = omega (arith, k)
 
-    stale_held : (u : Verdict) → stale_use q.goal x p ≡ Some u → (rank u ≡ 0) × IsWrong q m u
+    stale_held : (u : EventVerdict) → stale_use q.goal x p ≡ Some u → (rank u ≡ 0) × IsWrong q m u
     stale_held u e =
         let told = use_told q m.events m.before x p b u e in
         let v = told.0 in
@@ -254,7 +254,7 @@ module _ (law : SentLaw) (q : Question) (m : Made) (x : Explored) (a : Outcome �
     abbrev among : Bool
     among = list_any (λ c. c == (processor_at p x.state.processors).pc) q.goal.never
 
-    reached_missed : (is_some (fetched p x.state a.0) && among) ≡ false → (w : Verdict) → rank w ≡ 1 → IsWrong q m w → ⊥
+    reached_missed : (is_some (fetched p x.state a.0) && among) ≡ false → (w : EventVerdict) → rank w ≡ 1 → IsWrong q m w → ⊥
     reached_missed t (Reached r address) k wrong =
         let p_is : r ≡ p = step_is r p (sym wrong.0 ∙ is) in
         let fetches : is_some (fetched p (live_state m.before) m.outcome) ≡ true = subst (λ n. is_some (fetched n (live_state m.before) m.outcome) ≡ true) p_is wrong.1 in

@@ -9,8 +9,8 @@ use Rattle.m161_machine.specs.State.{State, is_worn, next as result_of, processo
 use Rattle.m161_machine.specs.StoreHistory.{StoreState, live_state}
 use Rattle.m161_audit.specs.Stale.{IsStale}
 use Rattle.m161_judge.specs.Verdict.{HasSent, has_keys, is_stuck}
-use Rattle.m161_states.specs.declared.verdict.Verdict.{Verdict}
-use Rattle.m161_states.specs.declared.verdict.Verdict.TheVariants.{Stale, Reached, Conflict, Stuck, Output}
+use Rattle.m161_states.specs.declared.verdict.EventVerdict.{EventVerdict}
+use Rattle.m161_states.specs.declared.verdict.EventVerdict.TheVariants.{Stale, Reached, Conflict, Stuck, Output}
 use Rattle.m161_states.specs.Question.{Question}
 use Rattle.m161_states.specs.System.{Explored, event_of}
 use Rattle.m161_states.specs.Verdicts.{verdict}
@@ -27,7 +27,7 @@ pub record Made : Type 0 where
   pub behind : State
 
 -- what is wrong at the last event, as the judge says it of the list that ends with it
-abbrev pub IsWrong : Question → Made → Verdict → Type 0
+abbrev pub IsWrong : Question → Made → EventVerdict → Type 0
 IsWrong q m (Stale p address row) =
     (v : Via) × (v.address ≡ address) × (v.row ≡ row)
     × IsStale m.before q.goal.watches m.event p v
@@ -44,7 +44,7 @@ IsWrong q m Output =
     (q.goal.output ≢ None) × (m.behind.board.off ≡ true) × (HasSent q.goal m.behind → ⊥)
 
 -- the order of the kinds
-abbrev pub rank : Verdict → ℕ
+abbrev pub rank : EventVerdict → ℕ
 rank (Stale p address row) = 0
 rank (Reached p address) = 1
 rank (Conflict conflict) = 2
@@ -52,10 +52,10 @@ rank Stuck = 3
 rank Output = 4
 
 -- the first kind that holds
-abbrev pub IsFirstWrong : Question → Made → Option Verdict → Type 0
-IsFirstWrong q m None = (v : Verdict) → IsWrong q m v → ⊥
+abbrev pub IsFirstWrong : Question → Made → Option EventVerdict → Type 0
+IsFirstWrong q m None = (v : EventVerdict) → IsWrong q m v → ⊥
 IsFirstWrong q m (Some v) =
-    IsWrong q m v × ((w : Verdict) → rank w < rank v → IsWrong q m w → ⊥)
+    IsWrong q m v × ((w : EventVerdict) → rank w < rank v → IsWrong q m w → ⊥)
 
 -- the law: so is the verdict of an accepted event, unless the machine is worn
 abbrev pub VerdictIsFirst : Type 0

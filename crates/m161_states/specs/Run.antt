@@ -10,7 +10,7 @@ use Rattle.m161_machine.specs.StoreHistory.{StoreState, live_state, without_stor
 use Rattle.m161_audit.specs.declared.watch.Watch.{Watch}
 use Rattle.m161_audit.specs.Stale.{HasGoneOn, UsesStale, after_event, after_events}
 use Rattle.m161_judge.specs.Verdict.{is_key}
-use Rattle.m161_states.specs.declared.verdict.Verdict.TheVariants.{Stale}
+use Rattle.m161_states.specs.declared.verdict.EventVerdict.TheVariants.{Stale}
 use Rattle.m161_states.specs.Question.{Question, booted}
 use Rattle.m161_states.specs.System.{Explored, Flags, agreed_after, agreed_at_boot, event_of, flags_after, fresh, next, no_flags, start}
 use Rattle.m161_states.specs.Verdicts.{has_sent, stale_use}

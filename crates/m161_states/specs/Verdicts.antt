@@ -17,8 +17,8 @@ use Rattle.m161_alike.specs.declared.reads.Reads.{Reads}
 use Rattle.m161_alike.specs.Reads.{no_reads, reads_in}
 use Rattle.m161_alike.specs.View.{known_of}
 use Rattle.m161_states.specs.declared.verdict.Unknown.{Unknown}
-use Rattle.m161_states.specs.declared.verdict.Verdict.{Verdict}
-use Rattle.m161_states.specs.declared.verdict.Verdict.TheVariants.{Stale, Reached, Conflict, Stuck, Output}
+use Rattle.m161_states.specs.declared.verdict.EventVerdict.{EventVerdict}
+use Rattle.m161_states.specs.declared.verdict.EventVerdict.TheVariants.{Stale, Reached, Conflict, Stuck, Output}
 use Rattle.m161_states.specs.Question.{Question}
 use Rattle.m161_states.specs.System.{Explored, Flags, behind, event_of, fresh}
 
@@ -45,31 +45,31 @@ some_watch test [] flags = false
 some_watch test (w ∷ ws) [] = false
 some_watch test (w ∷ ws) (f ∷ fs) = test w f || some_watch test ws fs
 
-abbrev pub stale_via : Criteria → Explored → ℕ → Option Via → Option Verdict
+abbrev pub stale_via : Criteria → Explored → ℕ → Option Via → Option EventVerdict
 stale_via goal x p None = None
 stale_via goal x p (Some v) =
     if some_watch (is_stale_for x.state p v) goal.watches x.flags then Some (Stale p v.address v.row)
     else None
 
 -- the Step's fetch, or, if that isn't stale, its access
-abbrev pub stale_use : Criteria → Explored → ℕ → Option Verdict
+abbrev pub stale_use : Criteria → Explored → ℕ → Option EventVerdict
 stale_use goal x p =
     option_or (stale_via goal x p (uses_in p x.state).fetch)
     (stale_via goal x p (uses_in p x.state).access)
 
 -- reached
 
-abbrev pub reached_at : List ℕ → ℕ → ℕ → Option ℕ → Option Verdict
+abbrev pub reached_at : List ℕ → ℕ → ℕ → Option ℕ → Option EventVerdict
 reached_at never p address word =
     if is_some word && list_any (λ a. a == address) never then Some (Reached p address) else None
 
 -- the Step, with this outcome, fetches a word at one of the addresses
-abbrev pub reached_by : Criteria → Explored → ℕ → Outcome → Option Verdict
+abbrev pub reached_by : Criteria → Explored → ℕ → Outcome → Option EventVerdict
 reached_by goal x p o =
     reached_at goal.never p (processor_at p x.state.processors).pc (fetched p x.state o)
 
 -- what is wrong with an accepted Step, by the state before it
-abbrev pub wrong_with : Criteria → Explored → Event → Outcome → Option Verdict
+abbrev pub wrong_with : Criteria → Explored → Event → Outcome → Option EventVerdict
 wrong_with goal x (Step p) o = option_or (stale_use goal x p) (reached_by goal x p o)
 wrong_with goal x (Key byte) o = None
 wrong_with goal x Done o = None
@@ -86,36 +86,36 @@ has_sent None agreed = false
 abbrev pub is_stuck_in : Criteria → Explored → Bool
 is_stuck_in goal x = is_stuck (nat_lt x.typed (length goal.keys)) x.state
 
-abbrev pub conflict_in : State → Option Verdict
+abbrev pub conflict_in : State → Option EventVerdict
 conflict_in s = if s.board.off then option_map (λ c. Conflict c) s.conflict else None
 
-abbrev pub stuck_in : Criteria → Explored → Option Verdict
+abbrev pub stuck_in : Criteria → Explored → Option EventVerdict
 stuck_in goal x =
     if is_stuck_in goal x && not (has_sent goal.output x.agreed) then Some Stuck else None
 
-abbrev pub output_in : Criteria → Explored → Option Verdict
+abbrev pub output_in : Criteria → Explored → Option EventVerdict
 output_in goal x =
     if is_some goal.output && x.state.board.off && not (has_sent goal.output x.agreed)
     then Some Output
     else None
 
 -- what is wrong with a state
-abbrev pub wrong_in : Criteria → Explored → Option Verdict
+abbrev pub wrong_in : Criteria → Explored → Option EventVerdict
 wrong_in goal x =
     option_or (conflict_in x.state) (option_or (stuck_in goal x) (output_in goal x))
 
 -- the verdict of an accepted event
 abbrev pub judged :
-    Criteria → Explored → Event → Result (Outcome × State) Refusal → Option Verdict
+    Criteria → Explored → Event → Result (Outcome × State) Refusal → Option EventVerdict
 judged goal x e (Ok given) =
     option_or (wrong_with goal x e given.0) (wrong_in goal (behind goal x e given.1))
 judged goal x e (Err refusal) = None
 
-abbrev pub verdict_by : Criteria → Explored → Option Event → Option Verdict
+abbrev pub verdict_by : Criteria → Explored → Option Event → Option EventVerdict
 verdict_by goal x None = None
 verdict_by goal x (Some e) = judged goal x e (result_of (fresh x.state) e)
 
-abbrev pub verdict : Question → Explored → ℕ → Option Verdict
+abbrev pub verdict : Question → Explored → ℕ → Option EventVerdict
 verdict q x n = verdict_by q.goal x (event_of q x n)
 
 -- unknown

@@ -31,4 +31,4 @@ pub use run_laws::{
     agreed_tells, flag_tells, fresh_is_same, next_is_event, stale_is_audited, start_is_boot,
     verdict_is_first,
 };
-pub use verdict::{Unknown, Verdict};
+pub use verdict::{EventVerdict, Unknown};

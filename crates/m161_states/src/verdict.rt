@@ -5,7 +5,7 @@ use m161_machine::Conflict;
 
 /// What is wrong with an event. Of the kinds that hold the first one is the verdict.
 #[derive(Clone, Copy, Debug, PartialEq, Eq)]
-pub enum Verdict {
+pub enum EventVerdict {
     /// The Step used a watched page through an old row of the TLB after its shootdown.
     Stale {
         /// The processor.

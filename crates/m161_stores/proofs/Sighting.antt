@@ -1,7 +1,7 @@
 use Rattle.std.proofs.Common.{◌≡◌, ◌∙◌, ap, sym, ℕ, Bool, true, false, Option, None, Some}
 use Rattle.std.specs.Prelude.{if◌then◌else◌, option_map}
 use Rattle.m161_states.specs.declared.verdict.Unknown.{Unknown}
-use Rattle.m161_states.specs.declared.verdict.Verdict.{Verdict}
+use Rattle.m161_states.specs.declared.verdict.EventVerdict.{EventVerdict}
 use Rattle.m161_states.specs.Question.{Question}
 use Rattle.m161_states.specs.System.{Explored, event_of, next, stored, stored_if, stored_of}
 use Rattle.m161_states.specs.Verdicts.{verdict}
@@ -16,7 +16,7 @@ use Rattle.m161_stores.specs.helpers.Storing.{sight_of, store_verdict, storing_r
 -- An event in an exploration for a store.
 
 -- what ends it at an accepted event
-ends_with : (q : Question) (word : ℕ) (x u : Explored) (n : ℕ) (stores : Bool) (v : Option Verdict) → stores ≡ is_word word (stored_of (event_of q x n) x.state) →
+ends_with : (q : Question) (word : ℕ) (x u : Explored) (n : ℕ) (stores : Bool) (v : Option EventVerdict) → stores ≡ is_word word (stored_of (event_of q x n) x.state) →
     next q x n ≡ Some u → verdict q x n ≡ v →
     store_verdict word (stored q x n) (verdict q x n) ≡ (if stores then Some Store else option_map (λ what. Wrong what) v)
 ends_with q word x u n stores v is went wrong =
@@ -24,7 +24,7 @@ ends_with q word x u n stores v is went wrong =
     let same : is_word word (stored q x n) ≡ stores = ap (λ o. is_word word (stored_if o to)) went ∙ sym is in
     λ i. if same i then Some Store else option_map (λ what. Wrong what) (wrong i)
 
-pub advances : (q : Question) (word : ℕ) (x t : Explored) (n : ℕ) (stores : Bool) (came : Advanced Verdict Unknown) →
+pub advances : (q : Question) (word : ℕ) (x t : Explored) (n : ℕ) (stores : Bool) (came : Advanced EventVerdict Unknown) →
     stores ≡ is_word word (stored_of (event_of q x n) x.state) → Advances (rules_of q) (IsMet q) x n t came →
     Advances (storing_rules q word) (IsMet q) x n t (sight_of stores came)
 unfolding rules_of storing_rules

@@ -2,7 +2,7 @@ use Rattle.std.proofs.Common.{◌≡◌, ◌∙◌, refl, ap, sym, subst, ℕ, �
 use Rattle.std.proofs.lemmas.Bool.{cases_order}
 use Rattle.std.specs.Prelude.{◌==◌, if◌then◌else◌, option_map}
 use Rattle.m161_states.specs.declared.verdict.Unknown.{Unknown}
-use Rattle.m161_states.specs.declared.verdict.Verdict.{Verdict}
+use Rattle.m161_states.specs.declared.verdict.EventVerdict.{EventVerdict}
 use Rattle.m161_states.specs.Question.{Question}
 use Rattle.m161_states.specs.System.{Explored, event_of, next, stored, stored_if, stored_of}
 use Rattle.m161_states.specs.Verdicts.{verdict}
@@ -50,33 +50,33 @@ accepted_of : (found : Option Explored) (to : Option ℕ) (word : ℕ) → store
 accepted_of None to word h = absurd (let bad : ◌≡◌ {A = Option ℕ} None (Some word) = h in cc)
 accepted_of (Some u) to word h = (u, refl)
 
-ends : (word : ℕ) (to : Option ℕ) (v : Option Verdict) → to ≡ Some word → store_verdict word to v ≡ Some Store
+ends : (word : ℕ) (to : Option ℕ) (v : Option EventVerdict) → to ≡ Some word → store_verdict word to v ≡ Some Store
 ends word to v h =
     ap (λ o. store_verdict word o v) h ∙ ap (λ b. if b then Some Store else option_map (λ what. Wrong what) v) (same word)
 
-no_store : (v : Option Verdict) → ◌≡◌ {A = Option Sight} (option_map (λ what. Wrong what) v) (Some Store) → ⊥
+no_store : (v : Option EventVerdict) → ◌≡◌ {A = Option Sight} (option_map (λ what. Wrong what) v) (Some Store) → ⊥
 no_store None h = let bad : ◌≡◌ {A = Option Sight} None (Some Store) = h in cc
 no_store (Some what) h = let bad : ◌≡◌ {A = Option Sight} (Some (Wrong what)) (Some Store) = h in cc
 
-store_by : (word other : ℕ) (v : Option Verdict) (test : Bool) → (other == word) ≡ test →
+store_by : (word other : ℕ) (v : Option EventVerdict) (test : Bool) → (other == word) ≡ test →
     ◌≡◌ {A = Option Sight} (if test then Some Store else option_map (λ what. Wrong what) v) (Some Store) → ◌≡◌ {A = Option ℕ} (Some other) (Some word)
 store_by word other v true e h = ap (λ n. Some n) (equal other word e)
 store_by word other v false e h = absurd (no_store v h)
 
-store_of : (word : ℕ) (to : Option ℕ) (v : Option Verdict) → store_verdict word to v ≡ Some Store → to ≡ Some word
+store_of : (word : ℕ) (to : Option ℕ) (v : Option EventVerdict) → store_verdict word to v ≡ Some Store → to ≡ Some word
 store_of word None v h = absurd (no_store v h)
 store_of word (Some other) v h = store_by word other v (other == word) refl h
 
-wrong_in : (v : Option Verdict) (what : Verdict) → ◌≡◌ {A = Option Sight} (option_map (λ w. Wrong w) v) (Some (Wrong what)) → v ≡ Some what
+wrong_in : (v : Option EventVerdict) (what : EventVerdict) → ◌≡◌ {A = Option Sight} (option_map (λ w. Wrong w) v) (Some (Wrong what)) → v ≡ Some what
 wrong_in None what h = absurd (let bad : ◌≡◌ {A = Option Sight} None (Some (Wrong what)) = h in cc)
 wrong_in (Some other) what h = let is : ◌≡◌ {A = Option Sight} (Some (Wrong other)) (Some (Wrong what)) = h in cc
 
-wrong_by : (v : Option Verdict) (what : Verdict) (test : Bool) →
+wrong_by : (v : Option EventVerdict) (what : EventVerdict) (test : Bool) →
     ◌≡◌ {A = Option Sight} (if test then Some Store else option_map (λ w. Wrong w) v) (Some (Wrong what)) → v ≡ Some what
 wrong_by v what true h = absurd (let bad : ◌≡◌ {A = Option Sight} (Some Store) (Some (Wrong what)) = h in cc)
 wrong_by v what false h = wrong_in v what h
 
-wrong_of : (word : ℕ) (to : Option ℕ) (v : Option Verdict) (what : Verdict) → store_verdict word to v ≡ Some (Wrong what) → v ≡ Some what
+wrong_of : (word : ℕ) (to : Option ℕ) (v : Option EventVerdict) (what : EventVerdict) → store_verdict word to v ≡ Some (Wrong what) → v ≡ Some what
 wrong_of word None v what h = wrong_in v what h
 wrong_of word (Some other) v what h = wrong_by v what (other == word) h
 
@@ -106,7 +106,7 @@ stores_last q word es h = record {
   stores = store_of word (stored q h.from h.last) (verdict q h.from h.last) h.verdict;
 }
 
-is_wrong : (q : Question) (word : ℕ) (es : List ℕ) (what : Verdict) → HasVerdict (storing_rules q word) es (Wrong what) → IsJudged (rules_of q) es
+is_wrong : (q : Question) (word : ℕ) (es : List ℕ) (what : EventVerdict) → HasVerdict (storing_rules q word) es (Wrong what) → IsJudged (rules_of q) es
 unfolding rules_of storing_rules
 is_wrong q word es what h = (
   what,
@@ -182,7 +182,7 @@ tells_open q word limit size (Open most) one is = λ es l h.
     is.no_verdict es (omega (arith, l, far)) (is_judged q word es h)
 tells_open q word limit size (Ended reason) one is = inr (is.0, reason, stop_of q word is.0 reason is.1)
 
-as_hung : (q : Question) (word states : ℕ) (first : Answer Verdict Unknown) (b : Bool) → TellsStores q (Clean states) word b →
+as_hung : (q : Question) (word states : ℕ) (first : Answer EventVerdict Unknown) (b : Bool) → TellsStores q (Clean states) word b →
     IsUnstored q word first ≡ NoneStores q word → IsUnsaid q word first ≡ SomeStores q word → TellsStores q first word b
 as_hung q word states first true h none some = subst (λ (P : Type 0). P) (sym none) h
 as_hung q word states first false h none some = subst (λ (P : Type 0). P) (sym some) h
@@ -190,7 +190,7 @@ as_hung q word states first false h none some = subst (λ (P : Type 0). P) (sym 
 same_number : (n m : ℕ) → ◌≡◌ {A = Option ℕ} (Some n) (Some m) → n ≡ m
 same_number n m h = cc
 
-pub tells : (q : Question) (word limit states : ℕ) (first : Answer Verdict Unknown) (again : Answer Sight Unknown) → Answers (rules_of q) limit first →
+pub tells : (q : Question) (word limit states : ℕ) (first : Answer EventVerdict Unknown) (again : Answer Sight Unknown) → Answers (rules_of q) limit first →
     states_again limit first ≡ Some states → Answers (storing_rules q word) states again → TellsStores q first word (says_unstored again)
 tells q word limit states (Clean n) again one is two =
     tells_closed q word n again (record { no_verdict = one.no_verdict; no_stop = one.no_stop; count = one.count })
@@ -211,7 +211,7 @@ some_views q n h =
     let there = h.2 [] (rules_of q).start refl tt in
     let within = there.1 in let number = h.3 in omega (arith, within, number)
 
-pub some_states : (q : Question) (limit states : ℕ) (first : Answer Verdict Unknown) → 0 < limit → Answers (rules_of q) limit first →
+pub some_states : (q : Question) (limit states : ℕ) (first : Answer EventVerdict Unknown) → 0 < limit → Answers (rules_of q) limit first →
     states_again limit first ≡ Some states → 0 < states
 some_states q limit states (Clean n) some one is = let few = some_views q n one.count in let same = same_number n states is in omega (arith, few, same)
 some_states q limit states (Hung es n) some one is = let few = some_views q n one.count in let same = same_number n states is in omega (arith, few, same)

@@ -1,6 +1,6 @@
 use Rattle.std.specs.Prelude.{◌≡◌, ◌⊎◌, ℕ, ◌≤◌, Bool, true, false, List, length, Some}
 use Rattle.m161_states.specs.declared.verdict.Unknown.{Unknown}
-use Rattle.m161_states.specs.declared.verdict.Verdict.{Verdict}
+use Rattle.m161_states.specs.declared.verdict.EventVerdict.{EventVerdict}
 use Rattle.m161_states.specs.Question.{Question}
 use Rattle.m161_states.specs.System.{Explored, stored}
 use Rattle.m161_explore.specs.declared.whole.Answer.{Answer}
@@ -36,7 +36,7 @@ SomeStops q = (events : List ℕ) × (unknown : Unknown) × HasStop (rules_of q)
 
 -- no Step stores to the word in the lists of which an answer is: in all lists, or in those of so many
 -- events. Where a list has a verdict, that isn't said
-abbrev pub IsUnstored : Question → ℕ → Answer Verdict Unknown → Type 0
+abbrev pub IsUnstored : Question → ℕ → Answer EventVerdict Unknown → Type 0
 IsUnstored q word (Clean states) = NoneStores q word
 IsUnstored q word (Found events what states) = ⊥
 IsUnstored q word (Hung events states) = NoneStores q word
@@ -45,7 +45,7 @@ IsUnstored q word (Ended reason) = ⊥
 
 -- it isn't said: some Step stores to it; of an open answer, which is of those lists alone in which what is
 -- known of time is enough, it may be that it isn't enough
-abbrev pub IsUnsaid : Question → ℕ → Answer Verdict Unknown → Type 0
+abbrev pub IsUnsaid : Question → ℕ → Answer EventVerdict Unknown → Type 0
 IsUnsaid q word (Clean states) = SomeStores q word
 IsUnsaid q word (Found events what states) = Unit {0}
 IsUnsaid q word (Hung events states) = SomeStores q word
@@ -53,6 +53,6 @@ IsUnsaid q word (Open size) = SomeStores q word ⊎ SomeStops q
 IsUnsaid q word (Ended reason) = Unit {0}
 
 -- whether it is said of a word, by an answer
-abbrev pub TellsStores : Question → Answer Verdict Unknown → ℕ → Bool → Type 0
+abbrev pub TellsStores : Question → Answer EventVerdict Unknown → ℕ → Bool → Type 0
 TellsStores q answer word true = IsUnstored q word answer
 TellsStores q answer word false = IsUnsaid q word answer

@@ -12,12 +12,12 @@ use m161_explore::{Answer, explore};
 use m161_judge::Goal;
 use m161_machine::Core;
 use m161_reach::{Exploration, Machines};
-use m161_states::{Known, Unknown, Verdict};
+use m161_states::{EventVerdict, Known, Unknown};
 use m161_tlb::Tlb;
 use std::alloc::{AllocError, Global};
 
 // How many states may be looked at behind this answer, if there is anything to be said.
-fn states_again(limit: u32, answer: &Answer<Verdict, Unknown>) -> Option<u32>
+fn states_again(limit: u32, answer: &Answer<EventVerdict, Unknown>) -> Option<u32>
     ensures { result ≡ states_again limit answer.now }
 {
     match answer {

@@ -7,7 +7,7 @@ ghost use Rattle.m161_stores.specs.helpers.Storing.{sight_of};
 use m161_bus::Console;
 use m161_explore::{Advanced, System};
 use m161_reach::{Hand, Machines};
-use m161_states::{Unknown, Verdict};
+use m161_states::{EventVerdict, Unknown};
 use m161_tlb::Tlb;
 use std::alloc::{AllocError, Global};
 
@@ -17,7 +17,7 @@ pub enum Sight {
     /// The Step stores to the word.
     Store,
     /// It doesn't, and this is wrong with the event.
-    Wrong(Verdict),
+    Wrong(EventVerdict),
 }
 
 /// Machines, and the word.
@@ -38,7 +38,7 @@ pub fn is_word(word: u32, stored: Option<u32>) -> bool
 }
 
 // What an event comes to, by what it comes to for the machine.
-fn sight_of(stores: bool, came: Advanced<Verdict, Unknown>) -> Advanced<Sight, Unknown>
+fn sight_of(stores: bool, came: Advanced<EventVerdict, Unknown>) -> Advanced<Sight, Unknown>
     ensures { result ≡ sight_of stores came }
 {
     match came {

@@ -4,8 +4,8 @@ use Rattle.std.specs.Prelude.{IfErr}
 use Rattle.std.proofs.lemmas.Result.{IfErr-weaker}
 use Rattle.m161_debug.specs.Breakpoints.{SessionState}
 use Rattle.m161_machine.specs.declared.event.Event.{Event}
-use Rattle.m161_server.specs.declared.fault.Fault.{Fault as ServerFault}
-use Rattle.m161_server.specs.declared.fault.Fault.TheVariants as server
+use Rattle.m161_server.specs.declared.fault.ServerFault.{ServerFault}
+use Rattle.m161_server.specs.declared.fault.ServerFault.TheVariants as server
 use Rattle.s161_base.proofs.Asking.{IsNoFile, boot_is_none, none_by, result_asks}
 use Rattle.s161_base.specs.Asked.{Asks, AsksFor}
 use Rattle.s161_base.specs.Streams.{Streams}

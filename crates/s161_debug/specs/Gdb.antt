@@ -4,8 +4,8 @@ use Rattle.m161_machine.specs.declared.event.Event.{Event}
 use Rattle.m161_machine.specs.History.{History}
 use Rattle.m161_moves.specs.Course.{Course}
 use Rattle.m161_replay.specs.Replays.{course_of}
-use Rattle.m161_server.specs.declared.fault.Fault.{Fault as ServerFault}
-use Rattle.m161_server.specs.declared.fault.Fault.TheVariants as server
+use Rattle.m161_server.specs.declared.fault.ServerFault.{ServerFault}
+use Rattle.m161_server.specs.declared.fault.ServerFault.TheVariants as server
 use Rattle.m161_server.specs.Serving.{Breaks, Ends}
 use Rattle.m161_server.specs.Streams.{Streams as ServerStreams, streams}
 use Rattle.s161_command.specs.declared.task.GdbTask.{GdbTask}

@@ -9,7 +9,7 @@ ghost use Rattle.s161_debug.specs.Gdb.{IsGdb, IsGdbFault, gdb_files, told_as};
 
 use crate::opening::{Prepared, open_run};
 use m161::{Console, Tlb};
-use m161_server::{Fault as ServerFault, serve};
+use m161_server::{ServerFault, serve};
 use s161_base::fault::{Fault, Unread};
 use s161_base::files::FileSource;
 use s161_command::GdbTask;

@@ -47,7 +47,7 @@ pub(crate) struct Prepared {
 
 // A machine, and the events of the text that names it.
 #[derive(Drop)]
-struct Booted {
+struct BootedRun {
     machine: Machine,
     events: Events,
 }
@@ -182,7 +182,7 @@ fn boot_for<'a>(
     image: &[u8],
     size: AskedSize,
     text: Option<&str>,
-) -> Result<Booted, Fault<'a>>
+) -> Result<BootedRun, Fault<'a>>
     ensures ok { IfOk result (λ booted. (conf : MachineConf)
         × ListsFirst size image.now (option_map (λ t. t.now) text.entry) booted.events conf
         × BootsTo image.now conf booted.machine) }
@@ -190,7 +190,7 @@ fn boot_for<'a>(
 {
     let planned = plan_first(alloc, size, image, text)?;
     let machine = boot_machine(alloc, image, planned.conf)?;
-    Ok(Booted {
+    Ok(BootedRun {
         machine,
         events: planned.events,
     })
@@ -199,7 +199,7 @@ fn boot_for<'a>(
 // The events that come first, and those that an order chooses behind them, on a copy of the state.
 fn choose<'a>(
     alloc: Global,
-    booted: Booted,
+    booted: BootedRun,
     drive: Drive<'_>,
     keys: &[u8],
 ) -> Result<Prepared, Fault<'a>>

@@ -59,14 +59,14 @@ impl<'a> Notes for Watched<'a> {
 
 // The last entries, what is watched of all, and all events.
 #[derive(Drop)]
-struct Kept<'a> {
+struct WatchedWithEvents<'a> {
     log: HeapCircularBuffer<PackedEntry>,
     watch: Watch,
     events: Vec<Event>,
     progress: &'a Progress,
 }
 
-impl<'a> Notes for Kept<'a> {
+impl<'a> Notes for WatchedWithEvents<'a> {
     ghost use Rattle.std.specs.Prelude.{◌≡◌};
     ghost use Rattle.circular_buffer.specs.Buffer.{keep_last};
     ghost use Rattle.m161_machine.specs.History.{events_of};
@@ -152,14 +152,14 @@ fn count_scheduled(
         made.stop made.log.items (string_bytes made.traps) made.watch) }
 {
     let mut first = core.copy(alloc)?;
-    let mut kept = Kept {
+    let mut kept = WatchedWithEvents {
         log,
         watch: Watch::new(),
         events: Vec::new(alloc),
         progress,
     };
     let stop = make_events(core, events, &mut kept)?;
-    let Kept {
+    let WatchedWithEvents {
         log,
         watch,
         events,
@@ -228,14 +228,14 @@ fn count_chosen(
         log.capacity true core.new.state made.stop made.log.items (string_bytes made.traps) made.watch) }
 {
     let mut before = core.copy(alloc)?;
-    let mut kept = Kept {
+    let mut kept = WatchedWithEvents {
         log,
         watch: Watch::new(),
         events: Vec::new(alloc),
         progress,
     };
     let stop = make_behind(core, first, options, options.events, keys, &mut kept)?;
-    let Kept {
+    let WatchedWithEvents {
         log,
         watch,
         events,

@@ -4,7 +4,7 @@ use Rattle.m161_audit.specs.Watch.{AreGood}
 use Rattle.m161_explore.specs.declared.whole.Answer.{Answer}
 use Rattle.m161_explore.specs.declared.whole.Answer.TheVariants.{Clean, Found, Hung, Open, Ended}
 use Rattle.m161_explore.specs.Answers.{Answers}
-use Rattle.m161_judge.specs.declared.verdict.Verdict.{Verdict as RunVerdict}
+use Rattle.m161_judge.specs.declared.verdict.Verdict.{Verdict}
 use Rattle.m161_judge.specs.declared.verdict.Verdict.TheVariants as run
 use Rattle.m161_machine.specs.declared.conf.Conf.{Conf}
 use Rattle.m161_machine.specs.History.{IsBootState}
@@ -13,8 +13,8 @@ use Rattle.m161_order.specs.declared.order.Order.TheVariants.{Turns}
 use Rattle.m161_reach.specs.Named.{events_named}
 use Rattle.m161_reach.specs.Reach.{IsLearnt, question_of, rules_of}
 use Rattle.m161_states.specs.declared.verdict.Unknown.{Unknown}
-use Rattle.m161_states.specs.declared.verdict.Verdict.{Verdict}
-use Rattle.m161_states.specs.declared.verdict.Verdict.TheVariants.{Stale, Reached, Conflict, Stuck, Output}
+use Rattle.m161_states.specs.declared.verdict.EventVerdict.{EventVerdict}
+use Rattle.m161_states.specs.declared.verdict.EventVerdict.TheVariants.{Stale, Reached, Conflict, Stuck, Output}
 use Rattle.m161_stores.specs.Stores.{TellsStores}
 use Rattle.m161_text.specs.Lines.{with_line_end}
 use Rattle.m161_text.specs.Parts.{◌␣◌}
@@ -60,7 +60,7 @@ abbrev pub limit_of : ExploreTask → ℕ
 limit_of task = if task.states == 0 then 1 else task.states
 
 -- a verdict of the last event of a list, as `search` has it: with the event's place
-abbrev pub at_place : ℕ → Verdict → RunVerdict
+abbrev pub at_place : ℕ → EventVerdict → Verdict
 at_place place (Stale processor address row) = run.Stale place processor address row
 at_place place (Reached processor address) = run.Reached place processor address
 at_place place (Conflict conflict) = run.Conflict conflict
@@ -78,7 +78,7 @@ open_text limit size = codes "open" ␣ decimal limit ␣ decimal size
 -- what is printed of an answer, with the exit status, for this machine, these keys, and at most
 -- so many states
 abbrev pub PrintsAnswer :
-    Conf → ℕ → List ℕ → Answer Verdict Unknown → List ℕ → ℕ → Type 0
+    Conf → ℕ → List ℕ → Answer EventVerdict Unknown → List ℕ → ℕ → Type 0
 PrintsAnswer conf limit keys (Clean states) text status =
     (status ≡ 0) × (text ≡ with_line_end (clean_text states 0))
 PrintsAnswer conf limit keys (Found events what states) text status =
@@ -103,7 +103,7 @@ pub record PrintsExplored (limit : ℕ) (given : Given) (text told : List ℕ) (
   pub is_boot : IsBootState given.file given.conf boot
   pub known : Known
   pub learnt : IsLearnt (question_of boot (criteria_of given) known)
-  pub answer : Answer Verdict Unknown
+  pub answer : Answer EventVerdict Unknown
   pub answers : Answers (rules_of (question_of boot (criteria_of given) known)) limit answer
   pub prints : PrintsAnswer given.conf limit given.all_keys answer text status
   pub notes : Notes (TellsStores (question_of boot (criteria_of given) known) answer) given.watches told

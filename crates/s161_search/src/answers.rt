@@ -11,9 +11,9 @@ ghost use Rattle.s161_search.specs.Texts.{found_text};
 use crate::texts::{clean_line, found_lines};
 use crate::told::SearchVerdict;
 use m161_explore::Answer;
-use m161_judge::Verdict as RunVerdict;
+use m161_judge::Verdict;
 use m161_machine::{Conf, Event};
-use m161_states::{Unknown, Verdict};
+use m161_states::{EventVerdict, Unknown};
 use s161_base::finished::Finished;
 use s161_command::ExploreTask;
 use std::alloc::{AllocError, Global};
@@ -65,28 +65,28 @@ fn events_named(
 }
 
 // A verdict of the last event of a list, with the event's place.
-fn at_place(place: usize, verdict: Verdict) -> RunVerdict
+fn at_place(place: usize, verdict: EventVerdict) -> Verdict
     ensures { result ≡ at_place place verdict }
 {
     match verdict {
-        Verdict::Stale {
+        EventVerdict::Stale {
             processor,
             address,
             row,
-        } => RunVerdict::Stale {
+        } => Verdict::Stale {
             place,
             processor,
             address,
             row,
         },
-        Verdict::Reached { processor, address } => RunVerdict::Reached {
+        EventVerdict::Reached { processor, address } => Verdict::Reached {
             place,
             processor,
             address,
         },
-        Verdict::Conflict(conflict) => RunVerdict::Conflict(conflict),
-        Verdict::Stuck => RunVerdict::Stuck,
-        Verdict::Output => RunVerdict::Output,
+        EventVerdict::Conflict(conflict) => Verdict::Conflict(conflict),
+        EventVerdict::Stuck => Verdict::Stuck,
+        EventVerdict::Output => Verdict::Output,
     }
 }
 
@@ -164,7 +164,7 @@ pub(crate) fn print_answer(
     conf: Conf,
     limit: u32,
     keys: &[u8],
-    answer: Answer<Verdict, Unknown>,
+    answer: Answer<EventVerdict, Unknown>,
 ) -> Result<Finished, AllocError>
     requires { HasEnded answer → ⊥ }
     ensures prints { IfOk result (λ done. PrintsAnswer conf limit keys.now answer done.text.items done.status) }

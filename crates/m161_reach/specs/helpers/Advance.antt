@@ -6,7 +6,7 @@ use Rattle.m161_machine.specs.State.{State, next as result_of}
 use Rattle.m161_judge.specs.Verdict.{Criteria}
 use Rattle.m161_alike.specs.declared.known.Known.{Known}
 use Rattle.m161_states.specs.declared.verdict.Unknown.{Unknown}
-use Rattle.m161_states.specs.declared.verdict.Verdict.{Verdict}
+use Rattle.m161_states.specs.declared.verdict.EventVerdict.{EventVerdict}
 use Rattle.m161_states.specs.Question.{Question, least}
 use Rattle.m161_states.specs.System.{Explored, behind, fresh, next_by}
 use Rattle.m161_states.specs.Verdicts.{stop_by, verdict_by}
@@ -33,14 +33,14 @@ abbrev pub asked : Criteria → Known → Question
 asked goal known = record { start = least; goal = goal; known = known }
 
 -- what comes of an accepted event with this verdict
-abbrev pub advanced_by : Option Verdict → Advanced Verdict Unknown
+abbrev pub advanced_by : Option EventVerdict → Advanced EventVerdict Unknown
 advanced_by None = Passed
 advanced_by (Some what) = Judged what
 
 -- what an event of x comes to, if it is this one; where it is accepted, t is the next state, as before
 -- any event, else t is x
 abbrev pub AdvancesBy :
-    Question → Explored → Option Event → Explored → Advanced Verdict Unknown → Type 0
+    Question → Explored → Option Event → Explored → Advanced EventVerdict Unknown → Type 0
 AdvancesBy q x e t Refused = (stop_by q x e ≡ None) × (next_by q.goal x e ≡ None) × (t ≡ x)
 AdvancesBy q x e t Passed =
     (u : Explored) × (stop_by q x e ≡ None) × (next_by q.goal x e ≡ Some u)

@@ -7,8 +7,8 @@ use Rattle.m161_gdb.specs.Frames.{HasRead}
 use Rattle.m161_gdb.specs.Links.{HasReceived}
 use Rattle.m161_gdb.specs.Stops.{StopsValue}
 use Rattle.m161_moves.specs.Course.{Course}
-use Rattle.m161_server.specs.declared.fault.Fault.{Fault}
-use Rattle.m161_server.specs.declared.fault.Fault.TheVariants as faults
+use Rattle.m161_server.specs.declared.fault.ServerFault.{ServerFault}
+use Rattle.m161_server.specs.declared.fault.ServerFault.TheVariants as faults
 use Rattle.m161_server.specs.declared.serving.Talk.{Talk}
 use Rattle.m161_gdb.specs.declared.link.Duty.TheVariants as duties
 use Rattle.m161_server.specs.Sessions.{Standing, standing}
@@ -26,7 +26,7 @@ IsChanged (Some stops) done old new = (done ≡ true) × (new ≡ stops)
 -- what is to be written was written, whole, or in part where the output failed; or nothing was
 abbrev pub Turn :
     {E : Type 0} → (E → Type 0) → (List ℕ → Bool → Type 0) → Option (List ℕ) → Option (List ℕ) →
-    Result Bool (Fault E) → Type 0
+    Result Bool (ServerFault E) → Type 0
 Turn Fails Does before after (Ok more) = (text : List ℕ) × Does text more × Appends before after text
 Turn Fails Does before after (Err faults.Output) =
     (text : List ℕ) × (more : Bool) × Does text more × AppendsSome before after text
@@ -59,7 +59,7 @@ at x link past = record { stands = x; sent = link.sent.items; past = past }
 pub record Deals
     {E : Type 0} (Fails : E → Type 0) (course : Course) (item : Item) (past : List Item)
     (x : Standing) (old : Link) (y : Standing) (new : Link) (before after : Option (List ℕ))
-    (result : Result Bool (Fault E)) : Type 0 where
+    (result : Result Bool (ServerFault E)) : Type 0 where
   pub received : HasReceived new (item ∷ past)
   pub turn : Turn Fails (λ text more. DoesItem course item (at x old past) text
       (at y new (item ∷ past)) more) before after result
@@ -71,7 +71,7 @@ progress place talk past = at (standing place talk.session) talk.link past
 -- a byte that was read makes no item, or this one
 pub record TakesNone
     {E : Type 0} (old : Talk) (new : Talk) (from to : ℕ) (bytes : List ℕ) (past : List Item)
-    (before after : Option (List ℕ)) (result : Result Bool (Fault E)) : Type 0 where
+    (before after : Option (List ℕ)) (result : Result Bool (ServerFault E)) : Type 0 where
   pub has_read : HasRead new.reader bytes (in_order past)
   pub link : new.link ≡ old.link
   pub session : new.session ≡ old.session
@@ -82,7 +82,7 @@ pub record TakesNone
 pub record TakesItem
     {E : Type 0} (Fails : E → Type 0) (course : Course) (old : Talk) (new : Talk) (from to : ℕ)
     (bytes : List ℕ) (past : List Item) (before after : Option (List ℕ))
-    (result : Result Bool (Fault E)) : Type 0 where
+    (result : Result Bool (ServerFault E)) : Type 0 where
   pub item : Item
   pub has_read : HasRead new.reader bytes (in_order (item ∷ past))
   pub deals : Deals Fails course item past (standing from old.session) old.link
@@ -91,7 +91,7 @@ pub record TakesItem
 -- or memory was refused for it
 abbrev pub Takes :
     {E : Type 0} → (E → Type 0) → Course → Talk → Talk → ℕ → ℕ → List ℕ → List Item →
-    Option (List ℕ) → Option (List ℕ) → Result Bool (Fault E) → Type 0
+    Option (List ℕ) → Option (List ℕ) → Result Bool (ServerFault E) → Type 0
 Takes Fails course old new from to bytes past before after result =
     TakesNone old new from to bytes past before after result
     ⊎ (TakesItem Fails course old new from to bytes past before after result
@@ -113,7 +113,7 @@ pub record Serving
 -- one that goes on, has ended, or was broken off
 abbrev pub Serves :
     {E : Type 0} → (E → Type 0) → Course → ℕ → Option (List ℕ) → Option (List ℕ) → ℕ → Talk →
-    Option (List ℕ) → Option (List ℕ) → Result Bool (Fault E) → Type 0
+    Option (List ℕ) → Option (List ℕ) → Result Bool (ServerFault E) → Type 0
 Serves Fails course place input output now talk left written (Ok true) =
     Serving course place input output now talk left written
 Serves Fails course place input output now talk left written (Ok false) =

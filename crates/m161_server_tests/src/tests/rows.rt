@@ -5,7 +5,7 @@ use crate::tests::streams::{Broken, Buffered};
 use crate::toy::Toy;
 use m161_gdb::frame;
 use m161_moves::{Access, StepSeen};
-use m161_server::{Fault, serve};
+use m161_server::{ServerFault, serve};
 use std::alloc::{AllocError, Global};
 use std::fmt::Write;
 use std::process::Abort;
@@ -58,13 +58,13 @@ enum End {
     Run,
 }
 
-fn end_of(ended: Result<(), Fault<()>>) -> End {
+fn end_of(ended: Result<(), ServerFault<()>>) -> End {
     match ended {
         Ok(()) => End::InOrder,
-        Err(Fault::Input) => End::Input,
-        Err(Fault::Output) => End::Output,
-        Err(Fault::Memory) => End::Memory,
-        Err(Fault::Run(())) => End::Run,
+        Err(ServerFault::Input) => End::Input,
+        Err(ServerFault::Output) => End::Output,
+        Err(ServerFault::Memory) => End::Memory,
+        Err(ServerFault::Run(())) => End::Run,
     }
 }
 

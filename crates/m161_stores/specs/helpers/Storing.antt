@@ -1,6 +1,6 @@
 use Rattle.std.specs.Prelude.{ℕ, ◌+◌, Bool, true, false, if◌then◌else◌, Option, None, Some, option_map}
 use Rattle.m161_states.specs.declared.verdict.Unknown.{Unknown}
-use Rattle.m161_states.specs.declared.verdict.Verdict.{Verdict}
+use Rattle.m161_states.specs.declared.verdict.EventVerdict.{EventVerdict}
 use Rattle.m161_states.specs.Question.{Question, processors_of}
 use Rattle.m161_states.specs.System.{Explored, next, start, stored}
 use Rattle.m161_states.specs.Verdicts.{is_end, stop, verdict}
@@ -17,7 +17,7 @@ use Rattle.m161_stores.specs.Runs.{is_word}
 -- An exploration for a store to a word.
 
 -- what ends it at an event: a store to the word, or else what is wrong with the event
-abbrev pub store_verdict : ℕ → Option ℕ → Option Verdict → Option Sight
+abbrev pub store_verdict : ℕ → Option ℕ → Option EventVerdict → Option Sight
 store_verdict word to wrong = if is_word word to then Some Store else option_map (λ what. Wrong what) wrong
 
 -- the rules of the machine, but for what ends an exploration
@@ -33,7 +33,7 @@ storing_rules q word = record {
 }
 
 -- what an event comes to that comes to this for the machine, where it may store to the word
-abbrev pub sight_of : Bool → Advanced Verdict Unknown → Advanced Sight Unknown
+abbrev pub sight_of : Bool → Advanced EventVerdict Unknown → Advanced Sight Unknown
 sight_of stores Refused = Refused
 sight_of stores Passed = if stores then Judged Store else Passed
 sight_of stores (Judged what) = if stores then Judged Store else Judged (Wrong what)
@@ -41,7 +41,7 @@ sight_of stores (Stopped reason) = Stopped reason
 
 -- how many states an exploration for a store may look at behind one with this answer, if there is anything to
 -- be said
-abbrev pub states_again : ℕ → Answer Verdict Unknown → Option ℕ
+abbrev pub states_again : ℕ → Answer EventVerdict Unknown → Option ℕ
 states_again limit (Clean states) = Some states
 states_again limit (Found events what states) = None
 states_again limit (Hung events states) = Some states

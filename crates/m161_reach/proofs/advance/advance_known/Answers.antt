@@ -6,7 +6,7 @@ use Rattle.m161_machine.specs.declared.event.Event.TheVariants.{Step}
 use Rattle.m161_machine.specs.Fetched.{fetches_none}
 use Rattle.m161_machine.specs.State.{processor_at}
 use Rattle.m161_machine.specs.Uses.{uses_in}
-use Rattle.m161_states.specs.declared.verdict.Verdict.{Verdict}
+use Rattle.m161_states.specs.declared.verdict.EventVerdict.{EventVerdict}
 use Rattle.m161_states.specs.System.{Explored}
 use Rattle.m161_states.specs.Verdicts.{reached_by, wrong_in, wrong_with}
 use Rattle.m161_reach.specs.helpers.Advance.{AdvancesBy, Takes, asked}
@@ -30,7 +30,7 @@ returns-in-Some g c = λ known stop.
     let at = processor_at p x.state.processors in
     let takes : Takes asks x (Step p) t (Some o) = subst (Takes asks x (Step p) t) c.in-Some.is c.in_ok-outcome.ensures in
     let reach : c.reached_by.result ≡ reached_by asks x p o =
-    c.reached_by.ensures ∙ ap (λ (v : Option Verdict). if fetches_none o then None else v) c.within_reach-reach.ensures
+    c.reached_by.ensures ∙ ap (λ (v : Option EventVerdict). if fetches_none o then None else v) c.within_reach-reach.ensures
     ∙ sym (reached asks.never p at.pc (fetched_word x.state.memory at.pc at) (fetches_none o)) in
     let with : c.first-with.result ≡ wrong_with asks x (Step p) o = c.first-with.ensures ∙ (λ i. option_or (c.stale_use-stale.ensures i) (reach i)) in
     let all : c.first.result ≡ option_or (wrong_with asks x (Step p) o) (wrong_in asks t) =

@@ -1,6 +1,6 @@
 use Rattle.std.proofs.Common.{◌≡◌, ◌∙◌, ap, sym, Bool, Some, None}
 use Rattle.std.specs.Prelude.{if◌then◌else◌}
-use Rattle.m161_states.specs.declared.verdict.Verdict.TheVariants.{Stale}
+use Rattle.m161_states.specs.declared.verdict.EventVerdict.TheVariants.{Stale}
 use Rattle.m161_states.specs.Verdicts.{is_stale_for, some_watch, stale_via}
 use Rattle.m161_reach.proofs.judge.stale_via.Goals as goal
 

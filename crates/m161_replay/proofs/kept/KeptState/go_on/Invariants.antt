@@ -1,7 +1,7 @@
 use Rattle.std.proofs.Common.{◌-◌, ◌≤◌, max}
 use Rattle.m161_machine.specs.State.{State}
 use Rattle.m161_replay.specs.Standing.{IsAt}
-use Rattle.m161_replay.proofs.kept.Kept.go_on.Given as goal
+use Rattle.m161_replay.proofs.kept.KeptState.go_on.Given as goal
 
 -- it is at a place of each run that it was at one of
 abbrev pub invariant-loop-self : goal.invariant-loop-self

@@ -2,7 +2,7 @@ use Rattle.std.proofs.Common.{◌∙◌, ap, arith}
 use Rattle.m161_machine.specs.declared.event.Event.TheVariants.{Step}
 use Rattle.m161_machine.specs.State.{next}
 use Rattle.m161_replay.proofs.Places.{accepts, goes_on, indexed}
-use Rattle.m161_replay.proofs.kept.Kept.go_on.Goals as goal
+use Rattle.m161_replay.proofs.kept.KeptState.go_on.Goals as goal
 
 pub advance-requires-clause-accepted : goal.advance-requires-clause-accepted
 advance-requires-clause-accepted g c =
