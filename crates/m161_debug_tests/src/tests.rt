@@ -6,6 +6,7 @@ mod fetched;
 mod jumps;
 mod names;
 mod registers;
+mod scenes;
 mod sessions;
 mod steps;
 mod untils;

@@ -1,4 +1,4 @@
-//! Tests of the program's commands, of the assembler and of the debugger.
+//! Tests of the program's commands and of the assembler.
 #![tactic(auto)]
 
 #[cfg(test)]

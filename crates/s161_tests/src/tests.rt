@@ -1,10 +1,9 @@
-//! Tests of the program's commands, of the assembler and of the debugger. `behind`, `program`, `run`,
+//! Tests of the program's commands and of the assembler. `behind`, `program`, `run`,
 //! `sample`, `faulty`, `going`, `over_files`, `prompt`, `segments`, `texts`, `traps` and `units` try the commands,
 //! over the streams of `streams`.
 
 mod asm;
 mod behind;
-mod debug;
 mod faulty;
 mod going;
 mod over_files;
