@@ -1,4 +1,4 @@
-use Rattle.s161_run.proofs.made.KeptNotes.add.Goals as goal
+use Rattle.s161_run.proofs.made.WatchedWithEventsNotes.add.Goals as goal
 
 pub returns : goal.returns
 returns c = λ room so_far kept.
