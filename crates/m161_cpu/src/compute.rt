@@ -81,7 +81,7 @@ impl<T: Tlb> Cpu<T> {
     ) -> Result<(), StepFault>
         ensures { ExecutesInProcessor (ShiftVariable op rd rt rs) self.old result self.new }
     {
-        let amount = Amount::new((self.reg(rs) % 32) as u8);
+        let amount = Amount::new((self.reg(rs) % 32_u32) as u8);
         let word = shift(op, self.reg(rt), amount);
         self.set(rd, word);
         Ok(())
