@@ -4,7 +4,7 @@ use Rattle.m161_judge.specs.Verdict.{Criteria}
 use Rattle.m161_machine.specs.State.{State}
 use Rattle.m161_reach.specs.Exploring.{Exploring, GoesOnExploring}
 use Rattle.m161_reach.specs.Reach.{IsAtBoot}
-use Rattle.m161_c.specs.Begun.{Begun, IsBegun, IsOf}
+use Rattle.m161_c.specs.Begun.{Begun, IsBegun, IsFresh}
 use Rattle.m161_c.specs.Explored.{IsExplored, IsRefused, IsUnexplored, Tells}
 use Rattle.m161_c.specs.helpers.Begun.{IsBegunOf}
 use Rattle.m161_c.specs.declared.answer.Exploration.{Exploration}
@@ -30,10 +30,10 @@ is_begun boot limit goal asked e at some fits begun same =
     subst (λ (g : Criteria). IsBegun (record { boot = boot; goal = g; limit = limit; exploring = e })) (sym same)
     (record { boot = at; some = some; fits = fits; good = begun.good; asked = begun.asked; exploring = begun.begun limit some })
 
-pub is_of : (boot : State) (limit : ℕ) (goal asked : Criteria) (e : Exploring) → IsAtBoot boot → 0 < limit → limit < 2 ^ 32 → IsBegunOf boot goal e → asked ≡ goal →
-    IsOf boot limit goal (record { boot = boot; goal = asked; limit = limit; exploring = e })
-is_of boot limit goal asked e at some fits begun same =
-    record { same_boot = refl; same_limit = refl; same_goal = same; begun = is_begun boot limit goal asked e at some fits begun same }
+pub is_fresh : (boot : State) (limit : ℕ) (goal asked : Criteria) (e : Exploring) → IsAtBoot boot → 0 < limit → limit < 2 ^ 32 → IsBegunOf boot goal e → asked ≡ goal →
+    IsFresh boot limit goal (record { boot = boot; goal = asked; limit = limit; exploring = e })
+is_fresh boot limit goal asked e at some fits begun same =
+    (record { same_boot = refl; same_limit = refl; same_goal = same; begun = is_begun boot limit goal asked e at some fits begun same }, begun.start)
 
 -- what a slice says, once it has the answer
 pub is_explored : (b : Begun) (goal : Criteria) (number : ℕ) (after : Exploring) (o : Option (Answer EventVerdict Unknown)) (a : Answer EventVerdict Unknown) (found : Exploration) (events : List ℕ) →
@@ -49,8 +49,3 @@ pub not_begun : (boot other : State) (limit : ℕ) (goal asked : Criteria) (answ
     IsUnexplored boot limit goal answer
 not_begun boot other limit goal asked answer some same_boot same_goal h =
     inr (some, subst (λ (s : State). IsRefused s goal answer) same_boot (subst (λ (g : Criteria). IsRefused other g answer) same_goal h))
-
--- one of another state and question that are the same
-pub is_of_same : (boot other : State) (limit : ℕ) (goal asked : Criteria) (b : Begun) → other ≡ boot → asked ≡ goal → IsOf other limit asked b → IsOf boot limit goal b
-is_of_same boot other limit goal asked b same_boot same_goal h =
-    subst (λ (s : State). IsOf s limit goal b) same_boot (subst (λ (g : Criteria). IsOf other limit g b) same_goal h)

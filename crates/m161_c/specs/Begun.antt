@@ -1,6 +1,7 @@
 use Rattle.std.specs.Prelude.{◌≡◌, ℕ, ◌^◌, ◌<◌, length, Option, None, Some}
 use Rattle.m161_judge.specs.Verdict.{Criteria}
 use Rattle.m161_machine.specs.State.{State}
+use Rattle.m161_explore.specs.Unfinished.{IsAtStart}
 use Rattle.m161_reach.specs.Exploring.{Exploring, GoesOnExploring, IsExploring}
 use Rattle.m161_reach.specs.Reach.{CanBeAsked, IsAtBoot}
 use Rattle.m161_c.specs.declared.answer.Exploration.{Exploration}
@@ -31,9 +32,13 @@ pub record IsOf (boot : State) (limit : ℕ) (goal : Criteria) (b : Begun) : Typ
   pub same_goal : b.goal ≡ goal
   pub begun : IsBegun b
 
+-- one of this machine and question, of which the first state was found, and no more
+abbrev pub IsFresh : State → ℕ → Criteria → Begun → Type 0
+IsFresh boot limit goal b = IsOf boot limit goal b × IsAtStart b.exploring.unfinished
+
 abbrev pub HasBegun : State → ℕ → Criteria → Option Begun → Type 0
 HasBegun boot limit goal None = ⊥
-HasBegun boot limit goal (Some b) = IsOf boot limit goal b
+HasBegun boot limit goal (Some b) = IsFresh boot limit goal b
 
 -- how many states were found, as the numbers of an exploration that has no answer yet
 abbrev pub unfinished : Begun → Exploration

@@ -4,21 +4,21 @@ ghost use Rattle.std.specs.Prelude.{◌≡◌, ◌<◌, ℕ, IfErr, IfOk, option
 ghost use Rattle.m161_judge.specs.Judge.{bytes_of};
 ghost use Rattle.m161_machine.specs.History.{boot_state};
 ghost use Rattle.m161_reach.specs.Reach.{IsAtBoot};
-ghost use Rattle.m161_c.specs.Begun.{IsOf, unfinished};
+ghost use Rattle.m161_c.specs.Begun.{IsFresh, unfinished};
 ghost use Rattle.m161_c.specs.Explores.{BeginsAs, SlicesAs};
-ghost use Rattle.m161_c.specs.Explored.{AreAllGood, IsRefused, IsUnexplored, criteria_of};
+ghost use Rattle.m161_c.specs.Explored.{IsRefused, IsUnexplored, criteria_of};
 ghost use Rattle.m161_c.specs.helpers.Begun.{Comes, IsBegunOf};
 
 use crate::answer::{Exploration, WatchNumbers};
-use crate::explored::{check_watches, tell, watches_of};
+use crate::explored::{check_goal, prepare, tell};
 use crate::session::Session;
 use crate::verdict::NONE;
-use crate::{BAD, MORE, NO_MEMORY, NOTHING};
+use crate::{MORE, NO_MEMORY, NOTHING};
 use m161::{Console, Core, Machine, Tlb};
 use m161_audit::Watch;
 use m161_judge::Goal;
 use m161_progress::Nobody;
-use m161_reach::{Exploring, begin_machine, can_be_asked, go_on_machine};
+use m161_reach::{Exploring, begin_machine, go_on_machine};
 use std::alloc::{AllocError, Global};
 use std::marker::Model;
 
@@ -65,30 +65,17 @@ impl Model for Begun {
     }) };
 }
 
-// Begins the exploration of a machine at boot, of which no watch is bad.
-fn begin_good(alloc: Global, boot: &Core, goal: &Goal) -> Result<Exploring<Tlb, Console>, u8>
-    requires boot { IsAtBoot boot.now.state }
-    requires good { AreAllGood boot.now.state goal.now }
-    ensures ok { IfOk result (IsBegunOf boot.now.state goal.now) }
-    ensures err { IfErr result (IsRefused boot.now.state goal.now) }
-{
-    if !can_be_asked(boot, goal) {
-        return Err(BAD);
-    }
-    match begin_machine(alloc, boot, goal) {
-        Ok(exploring) => Ok(exploring),
-        Err(_) => Err(NO_MEMORY),
-    }
-}
-
 // Begins the exploration of a machine at boot.
 fn begin_boot(alloc: Global, boot: &Core, goal: &Goal) -> Result<Exploring<Tlb, Console>, u8>
     requires boot { IsAtBoot boot.now.state }
     ensures ok { IfOk result (IsBegunOf boot.now.state goal.now) }
     ensures err { IfErr result (IsRefused boot.now.state goal.now) }
 {
-    match check_watches(alloc, boot, goal.watches) {
-        Ok(()) => begin_good(alloc, boot, goal),
+    match check_goal(alloc, boot, goal) {
+        Ok(()) => match begin_machine(alloc, boot, goal) {
+            Ok(exploring) => Ok(exploring),
+            Err(_) => Err(NO_MEMORY),
+        },
         Err(answer) => Err(answer),
     }
 }
@@ -114,7 +101,7 @@ fn keep(
     requires boot { IsAtBoot boot.state }
     requires some { 0 < limit }
     requires begun { IsBegunOf boot.state goal.now exploring }
-    ensures { IfOk result (IsOf boot.state limit goal.now) }
+    ensures { IfOk result (IsFresh boot.state limit goal.now) }
 {
     Ok(Begun {
         boot,
@@ -137,21 +124,15 @@ pub(crate) fn begin(
     never: &[u32],
     output: Option<&[u8]>,
 ) -> Result<Begun, u8>
-    ensures ok { IfOk result (IsOf (boot_state machine.now.start) limit
+    ensures ok { IfOk result (IsFresh (boot_state machine.now.start) limit
         (criteria_of keys.now watches.now never.now (bytes_of output.entry))) }
     ensures err { IfErr result (IsUnexplored (boot_state machine.now.start) limit
         (criteria_of keys.now watches.now never.now (bytes_of output.entry))) }
 {
-    if limit == 0 {
-        return Err(BAD);
-    }
-    let Ok(watches) = watches_of(alloc, watches) else {
-        return Err(NO_MEMORY);
+    let (boot, watches) = match prepare(alloc, machine, limit, watches) {
+        Ok(prepared) => prepared,
+        Err(answer) => return Err(answer),
     };
-    let Ok(boot) = machine.boot_again(alloc) else {
-        return Err(NO_MEMORY);
-    };
-    let boot = boot.into_core();
     let goal = Goal {
         watches: &watches,
         never,

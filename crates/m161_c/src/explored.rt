@@ -6,7 +6,7 @@ ghost use Rattle.m161_judge.specs.Judge.{bytes_of};
 ghost use Rattle.m161_machine.specs.History.{boot_state};
 ghost use Rattle.m161_reach.specs.Reach.{HasEnded, IsAtBoot};
 ghost use Rattle.m161_c.specs.Explored.{AreAllGood, IsExplored, IsRefused, IsUnexplored, Tells, criteria_of, watch_of};
-ghost use Rattle.m161_c.specs.helpers.Explored.{IsFound, IsUnwatched};
+ghost use Rattle.m161_c.specs.helpers.Explored.{IsExplorable, IsFound, IsUnprepared, IsUnwatched};
 
 use crate::answer::{Exploration, VerdictNumbers, WatchNumbers};
 use crate::verdict::{NONE, as_run, run_verdict};
@@ -64,20 +64,29 @@ pub(crate) fn check_watches(alloc: Global, core: &Core, watches: &[Watch]) -> Re
     }
 }
 
-// Explores a machine at boot, of which no watch is bad.
-fn explore_good(alloc: Global, boot: &Core, limit: u32, goal: &Goal) -> Result<Explored, u8>
+// Looks whether what is asked fits its words, where no watch is bad.
+fn check_fits(boot: &Core, goal: &Goal) -> Result<(), u8>
     requires boot { IsAtBoot boot.now.state }
-    requires some { 0 < limit }
     requires good { AreAllGood boot.now.state goal.now }
-    ensures ok { IfOk result (IsFound boot.now.state limit goal.now) }
+    ensures ok { IfOk result (λ _. IsExplorable boot.now.state goal.now) }
     ensures err { IfErr result (IsRefused boot.now.state goal.now) }
 {
     if !can_be_asked(boot, goal) {
         return Err(BAD);
     }
-    match explore_machine(alloc, boot, goal, limit) {
-        Ok(found) => Ok(found),
-        Err(_) => Err(NO_MEMORY),
+    Ok(())
+}
+
+/// Looks whether a machine at boot can be explored: no watch is bad, and what is asked fits its words. Else
+/// the number of why that isn't so, or isn't known.
+pub(crate) fn check_goal(alloc: Global, boot: &Core, goal: &Goal) -> Result<(), u8>
+    requires boot { IsAtBoot boot.now.state }
+    ensures ok { IfOk result (λ _. IsExplorable boot.now.state goal.now) }
+    ensures err { IfErr result (IsRefused boot.now.state goal.now) }
+{
+    match check_watches(alloc, boot, goal.watches) {
+        Ok(()) => check_fits(boot, goal),
+        Err(answer) => Err(answer),
     }
 }
 
@@ -88,8 +97,11 @@ fn explore_boot(alloc: Global, boot: &Core, limit: u32, goal: &Goal) -> Result<E
     ensures ok { IfOk result (IsFound boot.now.state limit goal.now) }
     ensures err { IfErr result (IsRefused boot.now.state goal.now) }
 {
-    match check_watches(alloc, boot, goal.watches) {
-        Ok(()) => explore_good(alloc, boot, limit, goal),
+    match check_goal(alloc, boot, goal) {
+        Ok(()) => match explore_machine(alloc, boot, goal, limit) {
+            Ok(found) => Ok(found),
+            Err(_) => Err(NO_MEMORY),
+        },
         Err(answer) => Err(answer),
     }
 }
@@ -188,6 +200,30 @@ fn tell_boot(
     }
 }
 
+/// The machine at boot again, and the watches of these numbers, for an exploration of at most so many states;
+/// or the number of why there is none.
+pub(crate) fn prepare(
+    alloc: Global,
+    machine: &Machine,
+    limit: u32,
+    watches: &[WatchNumbers],
+) -> Result<(Core, Vec<Watch>), u8>
+    ensures ok { IfOk result (λ prepared. (0 < limit) × (prepared.0.state ≡ boot_state machine.now.start)
+        × (prepared.1.items ≡ map watch_of watches.now)) }
+    ensures err { IfErr result (IsUnprepared limit) }
+{
+    if limit == 0 {
+        return Err(BAD);
+    }
+    let Ok(watches) = watches_of(alloc, watches) else {
+        return Err(NO_MEMORY);
+    };
+    let Ok(boot) = machine.boot_again(alloc) else {
+        return Err(NO_MEMORY);
+    };
+    Ok((boot.into_core(), watches))
+}
+
 /// Explores a machine from boot, and tells what was found, with the numbers of the events of its list;
 /// or the number of why it isn't explored.
 pub(crate) fn explore(
@@ -204,14 +240,9 @@ pub(crate) fn explore(
     ensures err { IfErr result (IsUnexplored (boot_state machine.now.start) limit
         (criteria_of keys.now watches.now never.now (bytes_of output.entry))) }
 {
-    if limit == 0 {
-        return Err(BAD);
-    }
-    let Ok(watches) = watches_of(alloc, watches) else {
-        return Err(NO_MEMORY);
-    };
-    let Ok(boot) = machine.boot_again(alloc) else {
-        return Err(NO_MEMORY);
+    let (boot, watches) = match prepare(alloc, machine, limit, watches) {
+        Ok(prepared) => prepared,
+        Err(answer) => return Err(answer),
     };
     let goal = Goal {
         watches: &watches,
@@ -219,5 +250,5 @@ pub(crate) fn explore(
         output,
         keys,
     };
-    tell_boot(alloc, boot.core(), limit, &goal)
+    tell_boot(alloc, &boot, limit, &goal)
 }

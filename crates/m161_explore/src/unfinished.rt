@@ -1,6 +1,6 @@
 //! An exploration in parts.
 ghost use Rattle.std.specs.Prelude.{◌≡◌, ℕ, ◌<◌, IfOk, length};
-ghost use Rattle.m161_explore.specs.Unfinished.{GoesOn, IsUnfinished};
+ghost use Rattle.m161_explore.specs.Unfinished.{GoesOn, IsAtStart, IsUnfinished};
 
 use super::graph::{Graph, start_alone};
 use super::search::search;
@@ -34,8 +34,9 @@ impl<St> Unfinished<St> {
 /// # Errors
 /// Memory is refused.
 pub fn begin<S: System>(alloc: Global, system: &S) -> Result<Unfinished<S::State>, AllocError>
-    ensures { IfOk result (λ unfinished.
+    ensures unfinished { IfOk result (λ unfinished.
         (limit : ℕ) → 0 < limit → IsUnfinished (S.rules system.now) (S.is_valid system.now) (S.is_ready system.now) limit unfinished) }
+    ensures start { IfOk result IsAtStart }
 {
     let mut state = system.start(alloc)?;
     let mut words = Vec::new(alloc);

@@ -7,7 +7,7 @@ use Rattle.m161_alike.specs.View.{joined, known_of}
 use Rattle.m161_explore.specs.declared.unfinished.Unfinished.{Unfinished}
 use Rattle.m161_explore.specs.declared.whole.Answer.{Answer}
 use Rattle.m161_explore.specs.Answers.{Answers}
-use Rattle.m161_explore.specs.Unfinished.{IsUnfinished}
+use Rattle.m161_explore.specs.Unfinished.{IsAtStart, IsUnfinished}
 use Rattle.m161_states.specs.declared.verdict.Unknown.{Unknown}
 use Rattle.m161_states.specs.declared.verdict.EventVerdict.{EventVerdict}
 use Rattle.m161_states.specs.Verdicts.{is_outside}
@@ -37,7 +37,7 @@ pub record LearnsMore (old new : Known) : Type 0 where
   pub others : (p : ℕ) → p < 32 → p ≢ processor → known_of new p ≡ known_of old p
 
 -- there is an answer; or there is none yet, and the events of so many states more were tried, or more is
--- known of time, and the states are looked for anew
+-- known of time, and the states are looked for anew, from the first one on
 abbrev pub GoesOnExploring : State → Criteria → ℕ → ℕ → Exploring → Exploring → Option (Answer EventVerdict Unknown) → Type 0
 GoesOnExploring boot goal limit number before after (Some answer) =
     Answers (rules_of (question_of boot goal after.known)) limit answer × (HasEnded answer → ⊥)
@@ -45,4 +45,4 @@ GoesOnExploring boot goal limit number before after (Some answer) =
 GoesOnExploring boot goal limit number before after None =
     IsExploring boot goal limit after
     × (((after.known ≡ before.known) × (after.unfinished.tried ≡ before.unfinished.tried + number))
-    ⊎ LearnsMore before.known after.known)
+    ⊎ (LearnsMore before.known after.known × IsAtStart after.unfinished))

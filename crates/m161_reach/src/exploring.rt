@@ -1,6 +1,7 @@
 //! The exploration of a machine in parts.
 
 ghost use Rattle.std.specs.Prelude.{◌≡◌, ◌<◌, ℕ, IfOk, length};
+ghost use Rattle.m161_explore.specs.Unfinished.{IsAtStart};
 ghost use Rattle.m161_reach.specs.Exploring.{GoesOnExploring, IsExploring};
 ghost use Rattle.m161_reach.specs.Reach.{CanBeAsked};
 
@@ -51,8 +52,9 @@ pub fn begin_machine<'a, T: Tlb + Drop, D: Console + Drop>(
     goal: &'a Goal<'a>,
 ) -> Result<Exploring<T, D>, AllocError>
     requires { CanBeAsked boot.now.state goal.now }
-    ensures { IfOk result (λ exploring.
+    ensures exploring { IfOk result (λ exploring.
         (limit : ℕ) → 0 < limit → IsExploring boot.now.state goal.now limit exploring) }
+    ensures start { IfOk result (λ exploring. IsAtStart exploring.unfinished) }
 {
     let known = Known::nothing();
     let unfinished = begin(alloc, &Machines::new(alloc, boot, goal, known))?;

@@ -1,6 +1,7 @@
 use Rattle.std.specs.Prelude.{ℕ, ◌<◌, None}
 use Rattle.m161_judge.specs.Verdict.{Criteria}
 use Rattle.m161_machine.specs.State.{State}
+use Rattle.m161_explore.specs.Unfinished.{IsAtStart}
 use Rattle.m161_reach.specs.Exploring.{Exploring, GoesOnExploring, IsExploring}
 use Rattle.m161_reach.specs.Reach.{CanBeAsked}
 use Rattle.m161_c.specs.Begun.{Begun, IsOf}
@@ -15,6 +16,7 @@ pub record IsBegunOf (boot : State) (goal : Criteria) (exploring : Exploring) : 
   pub good : AreAllGood boot goal
   pub asked : CanBeAsked boot goal
   pub begun : (limit : ℕ) → 0 < limit → IsExploring boot goal limit exploring
+  pub start : IsAtStart exploring.unfinished
 
 -- what a slice comes to
 abbrev pub Comes : Begun → ℕ → Slice → Type 0

@@ -18,8 +18,16 @@ pub record IsFound (boot : State) (limit : ℕ) (goal : Criteria) (found : Explo
   pub answers : Answers (rules_of (question_of boot goal found.known)) limit found.answer
   pub whole : HasEnded found.answer → ⊥
 
+-- no watch is bad, and what is asked fits its words
+abbrev pub IsExplorable : State → Criteria → Type 0
+IsExplorable boot goal = AreAllGood boot goal × CanBeAsked boot goal
+
 -- why it isn't known that no watch is bad
 abbrev pub IsUnwatched : ℕ → List Watch → ℕ → Type 0
 IsUnwatched ram watches answer =
     (answer ≡ 254)
     ⊎ (answer ≡ 22) × ((k : ℕ) × IsBad ram watches k × AreGood ram watches k)
+
+-- why there is neither a machine at boot nor watches
+abbrev pub IsUnprepared : ℕ → ℕ → Type 0
+IsUnprepared limit answer = (limit ≡ 0) × (answer ≡ 253) ⊎ (0 < limit) × (answer ≡ 254)

@@ -3,8 +3,8 @@ use Rattle.m161_explore.proofs.Judging.{begins_before}
 use Rattle.m161_explore.proofs.Laws.{Laws}
 use Rattle.m161_explore.proofs.unfinished.begin.Goals as goal
 
-pub returns : goal.returns
-returns g c = λ limit some.
+pub returns-clause-unfinished : goal.returns-clause-unfinished
+returns-clause-unfinished g c = λ limit some.
     let m = c.args.system.now in
     let met = g.met.S.System in
     let laws : Laws (g.S.System.rules m) (g.S.System.is_valid m) =
@@ -15,5 +15,6 @@ returns g c = λ limit some.
       ready = c.in_ok-encode.ensures.ready;
       before = begins_before _ _ c.deref.result.now _ _ _ laws (c.deref.ensures.value ∙ view_is)
           c.in_ok-graph.ensures.keys c.in_ok-graph.ensures.nodes c.in_ok-graph.ensures.links;
+      left = omega (arith, ap (λ (x : List (List ℕ)). length x) c.in_ok-graph.ensures.keys);
       few = omega (arith, ap (λ (x : List (List ℕ)). length x) c.in_ok-graph.ensures.keys);
     }

@@ -32,6 +32,6 @@ returns-in_ok-exploring-inside-in-Some-Ended g c =
     let more : LearnsMore old new = learns_more boot goal old new u news below c.insert.ensures.same c.insert.ensures.others in (
       is_begun_anew boot goal limit _ old new c.new-machines.result c.new-machines-in-Some-Ended.result before after fresh c.in_ok-answer.answer c.in-Some-Ended.field-0 u
           c.in_ok-answer.ensures c.in-Some-Ended.is c.in-Some-Ended.field-0-is c.new-machines.ensures c.insert.ensures.same c.insert.ensures.others
-          (c.in_ok-exploring-inside-in-Some-Ended.ensures limit c.requires.some) c.new-machines-in-Some-Ended.ensures was,
-      inr (subst (λ (e : Exploring). LearnsMore e.known new) c.exploring.view_is more),
+          (c.in_ok-exploring-inside-in-Some-Ended.ensures.unfinished limit c.requires.some) c.new-machines-in-Some-Ended.ensures was,
+      inr (subst (λ (e : Exploring). LearnsMore e.known new) c.exploring.view_is more, c.in_ok-exploring-inside-in-Some-Ended.ensures.start),
     )

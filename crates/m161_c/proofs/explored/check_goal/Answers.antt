@@ -2,10 +2,10 @@ use Rattle.std.proofs.Common.{ℕ, subst}
 use Rattle.m161_audit.specs.Watch.{AreGood}
 use Rattle.m161_c.specs.helpers.Explored.{IsUnwatched}
 use Rattle.m161_c.proofs.Exploring.{unwatched}
-use Rattle.m161_c.proofs.explored.explore_boot.Goals as goal
+use Rattle.m161_c.proofs.explored.check_goal.Goals as goal
 
-pub explore_good-requires-clause-good : goal.explore_good-requires-clause-good
-explore_good-requires-clause-good c =
+pub check_fits-requires-clause-good : goal.check_fits-requires-clause-good
+check_fits-requires-clause-good c =
     subst (λ g. (k : ℕ) → AreGood c.args.boot.now.state.conf.ram g.watches k) c.goal.view_is c.in-Ok.ensures.ok
 
 pub returns-in-Err-clause-err : goal.returns-in-Err-clause-err
