@@ -5,3 +5,4 @@ pub mod OneMore
 pub mod Rest
 pub mod Sound
 pub mod Listed
+pub mod FoundOutside

@@ -78,7 +78,7 @@ fn is_not_mips(file: &[u8]) -> bool
     file_half(file, E_MACHINE) != MIPS
 }
 
-fn has_bad_header_table(file: &[u8]) -> bool
+pub(crate) fn has_bad_header_table(file: &[u8]) -> bool
     requires { 52 ≤ length file.now }
     ensures { result ≡ has_bad_header_table file.now }
 {

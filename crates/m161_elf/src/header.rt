@@ -2,7 +2,7 @@
 
 ghost use Rattle.std.specs.Prelude.{◌≡◌, ◌+◌, ◌*◌, ◌<◌, ◌≤◌, false, length};
 ghost use Rattle.m161_ram.specs.Word.{half_at, word_at};
-ghost use Rattle.m161_elf.specs.Header.{e_phnum, e_phoff, header_at};
+ghost use Rattle.m161_elf.specs.Header.{e_phnum, e_phoff, header, header_at};
 ghost use Rattle.m161_elf.specs.helpers.Header.{segment_at};
 ghost use Rattle.m161_elf.specs.Image.{has_bad_header_table};
 
@@ -65,7 +65,7 @@ pub(crate) fn file_word(file: &[u8], at: usize) -> u32
 }
 
 /// The program header at an offset in the file.
-fn program_header(file: &[u8], at: usize) -> ProgramHeader
+fn header_at(file: &[u8], at: usize) -> ProgramHeader
     requires { at + 32 ≤ length file.now }
     ensures { result ≡ header_at file.now at }
 {
@@ -86,6 +86,17 @@ pub(crate) fn e_phnum(file: &[u8]) -> u16
     file_half(file, E_PHNUM)
 }
 
+/// Program header `i`.
+pub(crate) fn header(file: &[u8], i: u16) -> ProgramHeader
+    requires header { 52 ≤ length file.now }
+    requires table { has_bad_header_table file.now ≡ false }
+    requires within { i < e_phnum file.now }
+    ensures { result ≡ header file.now i }
+{
+    let at = file_word(file, E_PHOFF) as usize + usize::from(PROGRAM_HEADER_SIZE) * usize::from(i);
+    header_at(file, at)
+}
+
 /// Program header `i`, if it is of a segment to load.
 pub(crate) fn segment(file: &[u8], i: u16) -> Option<ProgramHeader>
     requires header { 52 ≤ length file.now }
@@ -93,8 +104,7 @@ pub(crate) fn segment(file: &[u8], i: u16) -> Option<ProgramHeader>
     requires within { i < e_phnum file.now }
     ensures { result ≡ segment_at file.now i }
 {
-    let at = file_word(file, E_PHOFF) as usize + usize::from(PROGRAM_HEADER_SIZE) * usize::from(i);
-    let header = program_header(file, at);
+    let header = header(file, i);
     if header.p_type == PT_LOAD {
         Some(header)
     } else {

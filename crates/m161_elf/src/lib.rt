@@ -22,7 +22,7 @@
 //! fault of the file: it has no symbols then.
 //!
 //! Source: the ELF32 specification and its MIPS supplement; the order of the faults, that the last
-//! segment is used, and which symbols are listed are this project's own.
+//! segment is used, which segment outside RAM is told, and which symbols are listed are this project's own.
 #![tactic(auto)]
 
 mod address;
@@ -31,6 +31,7 @@ mod fault;
 mod header;
 mod image;
 mod loader;
+mod outside;
 mod sections;
 mod segments;
 mod span;
@@ -41,6 +42,7 @@ pub use fault::{EXECUTABLE, IDENTIFICATION, MIPS};
 pub use header::{HEADER_SIZE, PROGRAM_HEADER_SIZE, PT_LOAD, ProgramHeader};
 pub use image::{Image, LoadError};
 pub use loader::{load, loads};
+pub use outside::{OutsideRam, first_outside_ram};
 pub use sections::{SECTION_HEADER_SIZE, SHT_STRTAB, SHT_SYMTAB};
 pub use span::Span;
 pub use symbol_table::{LONGEST_NAME, SHN_ABS, SYMBOL_SIZE, Symbol, symbols};

@@ -47,7 +47,7 @@ fn is_outside_file(file: &[u8], segment: &ProgramHeader) -> bool
     segment.p_filesz != 0 && (file.len() as u64) < end
 }
 
-fn is_outside_ram(ram: u32, segment: &ProgramHeader) -> bool
+pub(crate) fn is_outside_ram(ram: u32, segment: &ProgramHeader) -> bool
     ensures { result ≡ is_outside_ram ram segment.now }
 {
     segment.p_memsz != 0 && !is_in_ram(ram, segment.p_vaddr, segment.p_memsz)

@@ -9,9 +9,9 @@ use Rattle.m161_machine.specs.declared.conf.Conf.{Conf as MachineConf}
 use Rattle.m161_machine.specs.Conf.{is_within_limits}
 use Rattle.m161_machine.specs.History.{Boots, BootsState, IsBootState, boot_fault, load_fault}
 use Rattle.m161_machine.specs.State.{CoreValue}
-use Rattle.m161_segments.proofs.Found.{found}
-use Rattle.m161_segments.specs.declared.outside.OutsideRam.{OutsideRam}
-use Rattle.m161_segments.specs.Outside.{first_outside_ram}
+use Rattle.m161_elf.proofs.FoundOutside.{found}
+use Rattle.m161_elf.specs.declared.outside.OutsideRam.{OutsideRam}
+use Rattle.m161_elf.specs.Outside.{first_outside_ram}
 use Rattle.m161_text.specs.Lines.{FirstBad}
 use Rattle.m161_steplog.specs.Comments.{IsFirstBadOfLog}
 use Rattle.m161_steplog.specs.Schedule.{AreScheduleLines}

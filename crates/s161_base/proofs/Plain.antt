@@ -12,7 +12,7 @@ use Rattle.m161_cause.specs.declared.cause.Cause.TheVariants as cause
 use Rattle.m161_elf.specs.LoadError.{name_of_fault, number_of_fault}
 use Rattle.m161_elf.specs.declared.image.LoadError.{LoadError}
 use Rattle.m161_elf.specs.declared.image.LoadError.TheVariants as load
-use Rattle.m161_segments.specs.declared.outside.OutsideRam.{OutsideRam}
+use Rattle.m161_elf.specs.declared.outside.OutsideRam.{OutsideRam}
 use Rattle.m161_text.specs.Parts.{◌␣◌, hex_digit, hex_text, word_text}
 use Rattle.m161_text.proofs.Hex.{hex_digit_above}
 use Rattle.m161_machine.specs.declared.event.Refusal.{Refusal}

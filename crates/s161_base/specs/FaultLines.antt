@@ -5,7 +5,7 @@ use Rattle.m161_asm.specs.Kinds.{name_of_kind, number_of_kind}
 use Rattle.m161_cause.specs.Cause.{name_of_cause}
 use Rattle.m161_elf.specs.LoadError.{name_of_fault, number_of_fault}
 use Rattle.m161_machine.specs.Refusal.{name_of_refusal, number_of_refusal}
-use Rattle.m161_segments.specs.declared.outside.OutsideRam.{OutsideRam}
+use Rattle.m161_elf.specs.declared.outside.OutsideRam.{OutsideRam}
 use Rattle.m161_text.specs.Parts.{◌␣◌, hex_text, word_text}
 use Rattle.s161_base.specs.declared.fault.Fault.{Fault}
 use Rattle.s161_base.specs.declared.fault.Fault.TheVariants.{After, Conf, File, Image, Input, Log, LogImage, LogMachine, Memory, Never, Output, Schedule, Source, Threads, Touches, Watch, Watches, Word}

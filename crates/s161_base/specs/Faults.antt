@@ -15,7 +15,7 @@ use Rattle.m161_steplog.specs.declared.fault.TextFault.{TextFault}
 use Rattle.m161_steplog.specs.declared.fault.TextFault.TheVariants as text
 use Rattle.m161_machine.specs.History.{History, Boots, IsBootState, boot_fault}
 use Rattle.m161_machine.specs.State.{State}
-use Rattle.m161_segments.specs.Outside.{first_outside_ram}
+use Rattle.m161_elf.specs.Outside.{first_outside_ram}
 use Rattle.s161_base.specs.declared.excerpt.SourceError.{SourceError}
 use Rattle.s161_base.specs.declared.fault.Fault.{Fault}
 use Rattle.s161_base.specs.declared.fault.Fault.TheVariants.{After, Conf, Image, Log, Memory, Schedule, Source, Watches}

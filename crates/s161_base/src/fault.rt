@@ -7,9 +7,8 @@ ghost use Rattle.s161_base.specs.declared.fault.Fault.TheVariants.{Memory};
 use crate::excerpt::{SourceError, excerpt_at};
 use m161_asm::{AsmError, ErrorKind};
 use m161_cause::Cause;
-use m161_elf::LoadError;
+use m161_elf::{LoadError, OutsideRam, first_outside_ram};
 use m161_machine::{BootError, Refusal};
-use m161_segments::{OutsideRam, first_outside_ram};
 use std::alloc::AllocError;
 use std::error::Error;
 

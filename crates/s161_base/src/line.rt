@@ -8,8 +8,7 @@ ghost use Rattle.s161_base.specs.helpers.FaultLines.{image_text, place_text, sho
 use crate::explained::explanation;
 use crate::fault::{Fault, Unloaded};
 use m161_asm::AsmError;
-use m161_elf::LoadError;
-use m161_segments::OutsideRam;
+use m161_elf::{LoadError, OutsideRam};
 use m161_text::{Byte, Word};
 use std::fmt;
 

@@ -17,8 +17,8 @@ use crate::explained::explanation;
 use crate::fault::{Fault, Unloaded};
 use crate::pieces::{put, put_characters, put_hex, put_name, put_number};
 use m161_asm::AsmError;
+use m161_elf::OutsideRam;
 use m161_machine::Refusal;
-use m161_segments::OutsideRam;
 use std::io::Write;
 
 // Writes two texts.

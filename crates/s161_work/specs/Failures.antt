@@ -27,7 +27,7 @@ use Rattle.s161_run.specs.declared.events.RunStop.{RunStop}
 use Rattle.s161_search.specs.Explores.{as_search}
 use Rattle.s161_search.specs.Searches.{IsSearchFault}
 use Rattle.s161_run.specs.Threads.{IsThreadsFault}
-use Rattle.s161_trace.specs.Traces.{IsTraceFault}
+use Rattle.s161_texts.specs.Traces.{IsTraceFault}
 use Rattle.s161_work.specs.Assemblies.{IsAssemblyFault}
 use Rattle.s161_work.specs.Listings.{IsListingFault}
 use Rattle.s161_work.specs.Works.{Does, FileUse, GivesHelp, Going, HasMore, IsRefused, IsResultOf, IsUnasked, LeavesInput, Standard, answering, debugging, files_of, going_of, serving, standard, streams_of, tracing}

@@ -31,7 +31,7 @@ use Rattle.s161_search.specs.Given.{search_files}
 use Rattle.s161_search.specs.Searches.{IsSearched}
 use Rattle.s161_base.specs.Samples.{image_file}
 use Rattle.s161_run.specs.Threads.{IsRunInThreads}
-use Rattle.s161_trace.specs.Traces.{IsTraced, trace_files}
+use Rattle.s161_texts.specs.Traces.{IsTraced, trace_files}
 
 -- The effect of a command line.
 

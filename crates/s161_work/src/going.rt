@@ -6,7 +6,7 @@ ghost use Rattle.s161_base.specs.Asked.{AsksFor, IsBeforeInput, image_files};
 ghost use Rattle.s161_command.specs.Commands.{HasSourceLimits};
 ghost use Rattle.s161_debug.specs.Debugs.{debug_files};
 ghost use Rattle.s161_debug.specs.Gdb.{gdb_files};
-ghost use Rattle.s161_trace.specs.Traces.{trace_files};
+ghost use Rattle.s161_texts.specs.Traces.{trace_files};
 ghost use Rattle.s161_work.specs.Failures.{FailsToAnswer, FailsToDebug, FailsToServe, FailsToTrace};
 ghost use Rattle.s161_work.specs.Works.{IsDebuggedOut, IsGdbOut, IsServed, IsTracedOut, standard};
 
@@ -18,7 +18,7 @@ use s161_debug::debug::debug;
 use s161_debug::gdb::gdb;
 use s161_run::console::console;
 use s161_run::summary::status;
-use s161_trace::trace::trace;
+use s161_texts::trace::trace;
 use std::alloc::Global;
 use std::io::{Read, Write};
 

@@ -2,7 +2,7 @@ use Rattle.std.specs.Prelude.{ℕ, if◌then◌else◌, List, ◌++◌, codes, d
 use Rattle.m161_asm.specs.declared.error.AsmError.{AsmError}
 use Rattle.m161_elf.specs.declared.image.LoadError.{LoadError}
 use Rattle.m161_elf.specs.LoadError.{name_of_fault, number_of_fault}
-use Rattle.m161_segments.specs.declared.outside.OutsideRam.{OutsideRam}
+use Rattle.m161_elf.specs.declared.outside.OutsideRam.{OutsideRam}
 use Rattle.m161_text.specs.Parts.{◌␣◌, hex_text, word_text}
 use Rattle.s161_base.specs.FaultLines.{is_marked}
 

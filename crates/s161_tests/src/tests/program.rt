@@ -2,9 +2,8 @@
 
 use super::same;
 use super::streams::{FREE, Left, Memory, NoFiles, all};
-use m161_elf::LoadError;
+use m161_elf::{LoadError, OutsideRam};
 use m161_machine::BootError;
-use m161_segments::OutsideRam;
 use s161_base::fault::{Fault, Unloaded, Unread, fault_of_boot};
 use s161_progress::Progress;
 use s161_work::work::{start, work};

@@ -1,6 +1,0 @@
-mod Asking
-mod Printing
-mod Scheduling
-mod Driving
-mod Finishing
-mod Sharing

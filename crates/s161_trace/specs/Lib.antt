@@ -1,3 +1,0 @@
-pub mod Shared
-pub mod Traces
-pub mod helpers
