@@ -21,22 +21,21 @@ use Rattle.m161_order.specs.Delays.{delays_of}
 use Rattle.m161_places.specs.Laws.{IsEffective}
 use Rattle.m161_places.proofs.Effective.{have_effective_part}
 use Rattle.m161_places.proofs.Moving.{run_of_part}
-use Rattle.m161_reach.specs.Hangs.{HangingAreMade}
+use Rattle.m161_reach.specs.declared.told.Told.{Told}
+use Rattle.m161_reach.specs.Told.{TellsRun}
 use Rattle.m161_states.specs.Question.{Question}
 use Rattle.m161_c.specs.declared.answer.SoughtSlice.{SoughtSlice}
 use Rattle.m161_c.specs.declared.seeds.WrongRun.{WrongRun}
-use Rattle.m161_c.specs.declared.told.Told.{Told}
 use Rattle.m161_c.specs.Delays.{HasRightRun, HasWrongRun, offered_by}
 use Rattle.m161_c.specs.Driven.{rules_in}
 use Rattle.m161_c.specs.Seeds.{Asked, IsRightBy, IsToldRun}
 use Rattle.m161_c.specs.helpers.Listing.{IsRightFrom, IsWrongFrom}
 use Rattle.m161_c.specs.helpers.Points.{IsRunFrom}
 use Rattle.m161_c.specs.helpers.Seeking.{Begins}
-use Rattle.m161_c.specs.helpers.Telling.{TellsRun}
 use Rattle.m161_c.specs.Slices.{IsSlicedBy, TellsStop}
 use Rattle.m161_c.proofs.Seeking.{told_made}
 use Rattle.m161_machine.proofs.OneBoot.{booted_as_one}
-use Rattle.m161_c.proofs.Telling.{begun}
+use Rattle.m161_c.proofs.Booting.{begun}
 
 -- Every list of a class has the run of a useful one.
 
@@ -159,26 +158,26 @@ sliced_by a s q kept steps class from most slice told events begins start h tell
 }
 
 -- what came of one run
-pub list_right : HangingAreMade → (a : Asked) (s : State) (q : Question) (kept : StepsMemory) (steps : ℕ) (delays : Delays) (run : JudgedRun) (told : Option Told) →
-    told ≡ None → IsRunFrom a s kept (Delayed steps delays) run → TellsRun run.is_cut a.few q run.events.items run.judged told →
+pub list_right : (a : Asked) (s : State) (q : Question) (kept : StepsMemory) (steps : ℕ) (delays : Delays) (run : JudgedRun) (told : Option Told) →
+    told ≡ None → IsRunFrom a s kept (Delayed steps delays) run → TellsRun a.few q run told →
     IsRightFrom a s q kept steps (delays_of delays) run.is_cut
-list_right law a s q kept steps delays run told is made tells = λ begins start. (
+list_right a s q kept steps delays run told is made tells = λ begins start. (
   delays,
   refl,
   (
     run,
     subst (IsToldRun a (Delayed steps delays) run) is
-        (told_made law a s q (Delayed steps delays) run told begins (made (begun a.file a.conf s begins.boots) start) tells),
+        (told_made a s q (Delayed steps delays) run told begins (made (begun a.file a.conf s begins.boots) start) tells),
     refl,
   ),
 )
 
-pub list_wrong : HangingAreMade → (a : Asked) (s : State) (q : Question) (kept : StepsMemory) (steps : ℕ) (delays : Delays) (run : JudgedRun) (told : Option Told)
-    (what : Told) → told ≡ Some what → IsRunFrom a s kept (Delayed steps delays) run → TellsRun run.is_cut a.few q run.events.items run.judged told →
+pub list_wrong : (a : Asked) (s : State) (q : Question) (kept : StepsMemory) (steps : ℕ) (delays : Delays) (run : JudgedRun) (told : Option Told)
+    (what : Told) → told ≡ Some what → IsRunFrom a s kept (Delayed steps delays) run → TellsRun a.few q run told →
     IsWrongFrom a s q kept steps (delays_of delays) (record { run = run; told = what })
-list_wrong law a s q kept steps delays run told what is made tells = λ begins start. (
+list_wrong a s q kept steps delays run told what is made tells = λ begins start. (
   delays,
   refl,
   subst (IsToldRun a (Delayed steps delays) run) is
-      (told_made law a s q (Delayed steps delays) run told begins (made (begun a.file a.conf s begins.boots) start) tells),
+      (told_made a s q (Delayed steps delays) run told begins (made (begun a.file a.conf s begins.boots) start) tells),
 )

@@ -9,15 +9,14 @@ use Rattle.m161_machine.specs.declared.conf.Conf.{Conf}
 use Rattle.m161_machine.specs.History.{boot_fault}
 use Rattle.m161_machine.specs.State.{State}
 use Rattle.m161_order.specs.declared.order.Order.{Order}
-use Rattle.m161_reach.specs.Hangs.{HangingAreMade}
+use Rattle.m161_reach.specs.declared.told.Told.{Told}
+use Rattle.m161_reach.specs.Told.{AsksEnds, TellsRun}
 use Rattle.m161_states.specs.Question.{Question}
-use Rattle.m161_c.specs.declared.told.Told.{Told}
 use Rattle.m161_c.specs.Driven.{rules_in}
 use Rattle.m161_c.specs.Seeds.{AreRightTo, Asked, IsToldRun}
 use Rattle.m161_c.specs.helpers.Seeking.{Begins}
-use Rattle.m161_c.specs.helpers.Telling.{AsksEnds, TellsRun}
 use Rattle.m161_machine.proofs.OneBoot.{booted_as_one}
-use Rattle.m161_c.proofs.Telling.{begun, tells_run}
+use Rattle.m161_c.proofs.Booting.{begun}
 
 -- A search by seeds.
 
@@ -28,24 +27,22 @@ run_made : (file : List ℕ) (conf : Conf) (rules : Rules) (n : ℕ) (goal : Cri
 run_made file conf rules n goal (Some first) run h = absurd cc
 run_made file conf rules n goal None run h = h
 
-pub told_made : HangingAreMade → (a : Asked) (s : State) (q : Question) (order : Order) (run : JudgedRun) (told : Option Told) → Begins a s q →
-    IsRun a.file a.conf (rules_in a.numbers order a.goal.keys) a.events a.goal run → TellsRun run.is_cut a.few q run.events.items run.judged told →
+pub told_made : (a : Asked) (s : State) (q : Question) (order : Order) (run : JudgedRun) (told : Option Told) → Begins a s q →
+    IsRun a.file a.conf (rules_in a.numbers order a.goal.keys) a.events a.goal run → TellsRun a.few q run told →
     IsToldRun a order run told
-told_made law a s q order run told begins is tells =
+told_made a s q order run told begins is tells =
     let same : s ≡ is.booted = booted_as_one a.file a.conf s is.booted (begun a.file a.conf s begins.boots) is.is_booted in
     record {
       is_run = is;
-      is_told =
-          tells_run law run.is_cut a.few a.goal is.booted q run.events.items run.judged told
-          (subst (λ x. AsksEnds a.goal x q) same begins.asks) is.judged tells;
+      is_told = tells a.goal is.booted (subst (λ x. AsksEnds a.goal x q) same begins.asks) is.judged;
     }
 
-pub told_run : HangingAreMade → (a : Asked) (s : State) (q : Question) (order : Order) (policy : Rules) (run : JudgedRun) (told : Option Told) → Begins a s q →
+pub told_run : (a : Asked) (s : State) (q : Question) (order : Order) (policy : Rules) (run : JudgedRun) (told : Option Told) → Begins a s q →
     policy ≡ rules_in a.numbers order a.goal.keys →
     Runs a.file a.conf (boot_fault a.file a.conf) policy a.events (with_keys_of policy a.goal) (Ok run) →
-    TellsRun run.is_cut a.few q run.events.items run.judged told → IsToldRun a order run told
-told_run law a s q order policy run told begins policy_is runs tells =
-    told_made law a s q order run told begins
+    TellsRun a.few q run told → IsToldRun a order run told
+told_run a s q order policy run told begins policy_is runs tells =
+    told_made a s q order run told begins
     (run_made a.file a.conf (rules_in a.numbers order a.goal.keys) a.events a.goal (boot_fault a.file a.conf) run
     (subst (λ r. Runs a.file a.conf (boot_fault a.file a.conf) r a.events (with_keys_of r a.goal) (Ok run)) policy_is runs))
     tells

@@ -14,16 +14,15 @@ use Rattle.m161_order.specs.declared.order.OrderError.{OrderError}
 use Rattle.m161_order.specs.Delays.{delays_of}
 use Rattle.m161_order.specs.Order.{order_fault}
 use Rattle.m161_places.specs.Laws.{offered}
+use Rattle.m161_reach.specs.declared.told.Told.{Told}
 use Rattle.m161_c.specs.declared.answer.ClassNumbers.{ClassNumbers}
 use Rattle.m161_c.specs.declared.answer.OrderNumbers.{OrderNumbers}
 use Rattle.m161_c.specs.declared.answer.SoughtList.{SoughtList}
 use Rattle.m161_c.specs.declared.seeds.WrongRun.{WrongRun}
 use Rattle.m161_c.specs.declared.session.Session.{Session}
-use Rattle.m161_c.specs.declared.told.Told.{Told}
 use Rattle.m161_c.specs.Driven.{rules_in}
 use Rattle.m161_c.specs.Seeds.{Asked, IsRightBy, IsToldRun, KeepsSought, SeeksBy, number_of_event}
-use Rattle.m161_c.specs.Told.{search_verdict}
-use Rattle.m161_c.specs.Verdicts.{no_verdict}
+use Rattle.m161_c.specs.Verdicts.{no_verdict, search_verdict}
 
 -- A search by delays: every run from boot by turns with the delays of a class, up to the first that goes wrong.
 

@@ -5,13 +5,13 @@ use Rattle.m161_machine.specs.declared.conf.Conf.{Conf}
 use Rattle.m161_machine.specs.declared.event.Event.{Event}
 use Rattle.m161_machine.specs.History.{History, IsBootState, boot_fault, events_of}
 use Rattle.m161_machine.specs.State.{State}
+use Rattle.m161_reach.specs.declared.told.Told.{Told}
 use Rattle.m161_reach.specs.Reach.{CanBeAsked}
+use Rattle.m161_reach.specs.Told.{IsTold}
 use Rattle.m161_c.specs.declared.answer.Judgement.{Judgement}
-use Rattle.m161_c.specs.declared.told.Told.{Told}
 use Rattle.m161_c.specs.Explored.{AreAllGood, IsRefused}
 use Rattle.m161_c.specs.Files.{number_of_boot}
-use Rattle.m161_c.specs.Judged.{OfWhole}
-use Rattle.m161_c.specs.Told.{IsTold, told_numbers}
+use Rattle.m161_c.specs.Judged.{OfWhole, told_numbers}
 
 -- The verdict of a search on the events that a machine has made; or why there is none, as a number.
 

@@ -10,9 +10,10 @@ use Rattle.m161_judge.specs.declared.verdict.Verdict.TheVariants.{Stale}
 use Rattle.m161_judge.specs.Judge.{Judges}
 use Rattle.m161_judge.specs.Verdict.{Criteria}
 use Rattle.m161_machine.specs.History.{History, boot_fault, boot_state, events_of}
+use Rattle.m161_reach.specs.declared.told.Told.{Told}
 use Rattle.m161_c.specs.declared.answer.Judgement.{Judgement}
 use Rattle.m161_c.specs.Files.{number_of_boot}
-use Rattle.m161_c.specs.Verdicts.{no_verdict, run_verdict}
+use Rattle.m161_c.specs.Verdicts.{no_verdict, run_verdict, search_verdict}
 
 -- What is wrong with the events that a machine has made.
 
@@ -30,6 +31,11 @@ abbrev pub judged_numbers : Option Judged → Judgement
 judged_numbers None = no_judgement
 judged_numbers (Some judged) =
     record { verdict = run_verdict judged.verdict; events = judged.events }
+
+-- that of a search
+abbrev pub told_numbers : Option Told → Judgement
+told_numbers None = no_judgement
+told_numbers (Some told) = record { verdict = search_verdict told.verdict; events = told.events }
 
 -- why events aren't judged, as a number: as a boot's; or a watch is bad
 abbrev pub number_of_audit : AuditError → ℕ

@@ -12,16 +12,16 @@ use Rattle.m161_order.specs.declared.order.Order.{Order}
 use Rattle.m161_order.specs.declared.order.Order.TheVariants.{Turns, Delayed, Random, Priorities}
 use Rattle.m161_order.specs.declared.order.OrderError.{OrderError}
 use Rattle.m161_order.specs.Order.{order_fault}
+use Rattle.m161_reach.specs.declared.told.Told.{Told}
 use Rattle.m161_reach.specs.Reach.{CanBeAsked}
+use Rattle.m161_reach.specs.Told.{IsRunTold}
 use Rattle.m161_c.specs.declared.answer.OrderNumbers.{OrderNumbers}
 use Rattle.m161_c.specs.declared.answer.Sought.{Sought}
 use Rattle.m161_c.specs.declared.session.Session.{Session}
-use Rattle.m161_c.specs.declared.told.Told.{Told}
 use Rattle.m161_c.specs.Driven.{number_of_order, order_in, rules_in}
 use Rattle.m161_c.specs.Explored.{AreAllGood, IsRefused}
 use Rattle.m161_c.specs.Files.{number_of_boot}
-use Rattle.m161_c.specs.Told.{IsRunTold, search_verdict}
-use Rattle.m161_c.specs.Verdicts.{no_verdict}
+use Rattle.m161_c.specs.Verdicts.{no_verdict, search_verdict}
 
 -- A search by seeds: the first run from boot that goes wrong.
 

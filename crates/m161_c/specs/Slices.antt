@@ -18,8 +18,7 @@ use Rattle.m161_c.specs.declared.seeds.WrongRun.{WrongRun}
 use Rattle.m161_c.specs.declared.session.Session.{Session}
 use Rattle.m161_c.specs.Delays.{HasRightRun, HasWrongRun, class_in, offered_by, steps_in}
 use Rattle.m161_c.specs.Seeds.{Asked, KeepsSought, SeeksBy, number_of_event}
-use Rattle.m161_c.specs.Told.{search_verdict}
-use Rattle.m161_c.specs.Verdicts.{no_verdict}
+use Rattle.m161_c.specs.Verdicts.{no_verdict, search_verdict}
 
 -- A slice of a search by delays: the useful lists of a class from one on, as far as it came.
 

@@ -1,5 +1,7 @@
 use Rattle.m161_judge.specs.declared.verdict.Verdict.{Verdict}
 use Rattle.m161_judge.specs.declared.verdict.Verdict.TheVariants as run
+use Rattle.m161_reach.specs.declared.told.SearchVerdict.{SearchVerdict}
+use Rattle.m161_reach.specs.declared.told.SearchVerdict.TheVariants.{Run, Hung}
 use Rattle.m161_states.specs.declared.verdict.EventVerdict.{EventVerdict}
 use Rattle.m161_states.specs.declared.verdict.EventVerdict.TheVariants.{Stale, Reached, Conflict, Stuck, Output}
 use Rattle.m161_c.specs.declared.answer.VerdictNumbers.{VerdictNumbers}
@@ -20,6 +22,11 @@ run_verdict (run.Conflict c) =
 run_verdict run.Stuck = record no_verdict { kind = 4 }
 run_verdict run.Output = record no_verdict { kind = 5 }
 run_verdict run.End = record no_verdict { kind = 6 }
+
+-- of a search
+abbrev pub search_verdict : SearchVerdict → VerdictNumbers
+search_verdict (Run v) = run_verdict v
+search_verdict Hung = record no_verdict { kind = 7 }
 
 -- on a list that an exploration found: those of the same on a run, whatever its place
 abbrev pub as_run : EventVerdict → Verdict

@@ -4,20 +4,20 @@ ghost use Rattle.std.specs.Prelude.{◌≡◌, Err, IfErr, IfOk, Ok, Some};
 ghost use Rattle.m161_judge.specs.Judge.{bytes_of};
 ghost use Rattle.m161_machine.specs.History.{boot_fault};
 ghost use Rattle.m161_c.specs.Explored.{criteria_of};
-ghost use Rattle.m161_c.specs.Told.{IsTold};
 ghost use Rattle.m161_c.specs.Hung.{TellsBooted, TellsFrom, TellsVerdict, HungAs};
-ghost use Rattle.m161_c.specs.helpers.Telling.{AsksEnds, IsBooted};
+ghost use Rattle.m161_reach.specs.Told.{AsksEnds, IsTold};
+ghost use Rattle.m161_c.specs.helpers.Booting.{IsBooted};
 
 use crate::answer::{Judgement, WatchNumbers};
+use crate::asked::asked_core;
 use crate::explored::watches_of;
 use crate::judged::{audit_number, events_made, has_all};
 use crate::session::Session;
-use crate::told::{Told, asked_core, ends_of, tell};
 use crate::verdict::told_numbers;
 use crate::{DROPPED, NO_MEMORY, NOTHING};
 use m161::{Conf, Console, Event, Machine, Tlb};
 use m161_judge::{Booted, Goal, judge_events};
-use m161_reach::{Machines, hanging_are_made};
+use m161_reach::{Machines, Told, ends_of, tell};
 use m161_states::Known;
 use std::alloc::{AllocError, Global};
 
@@ -37,8 +37,6 @@ fn tell_events(
     let Ok(judged) = judge_events(alloc, booted, events, goal) else {
         return Err(AllocError);
     };
-    // So that the proof knows that events which hang were all accepted.
-    hanging_are_made();
     tell(alloc, ends, few, judged, events)
 }
 

@@ -14,25 +14,25 @@ ghost use Rattle.m161_c.specs.Seeds.{SeeksFrom, asked_with};
 ghost use Rattle.m161_c.specs.Slices.{SeeksSlicesAs, SeeksSlicesIn, TellsRight, TellsStop, TellsWrong, list_in};
 ghost use Rattle.m161_c.specs.helpers.Listing.{IsLookedBy, LooksBy};
 ghost use Rattle.m161_c.specs.helpers.Seeking.{Begins};
-ghost use Rattle.m161_c.specs.helpers.Telling.{BeginsAt};
+ghost use Rattle.m161_c.specs.helpers.Booting.{BeginsAt};
 
 use crate::answer::{
     ClassNumbers, ListNumbers, OrderNumbers, SoughtList, SoughtSlice, WatchNumbers,
 };
+use crate::asked::asked_core;
 use crate::driven::order_number;
 use crate::explored::watches_of;
 use crate::judged::audit_number;
 use crate::lists::ListRuns;
 use crate::seeds::{Task, WrongRun, event_bytes};
 use crate::session::Session;
-use crate::told::{asked_core, ends_of};
 use crate::verdict::{NONE, search_verdict};
 use crate::{BAD, NO_MEMORY, NOTHING};
 use m161::{Conf, Console, Tlb};
 use m161_delays::{Class, Delays, Searched, Slice, SliceStop, search_alone, search_slice};
 use m161_drive::Order;
 use m161_judge::{Booted, Goal, StepMemory};
-use m161_reach::Machines;
+use m161_reach::{Machines, ends_of};
 use m161_states::Known;
 use std::alloc::{AllocError, Global};
 

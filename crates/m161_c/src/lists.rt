@@ -8,12 +8,11 @@ ghost use Rattle.m161_c.specs.helpers.Points.{IsPointOf, IsRunFrom};
 
 use crate::points::{RunPoint, go_along};
 use crate::seeds::{Task, WrongRun, policy_of};
-use crate::told::tell_run;
 use m161::{Console, Tlb};
 use m161_delays::{Delays, Runs, Tested};
 use m161_drive::{Order, Policy};
 use m161_judge::{Booted, First, Goal, JudgedRun, StepMemory, judge_rest};
-use m161_reach::{Machines, hanging_are_made};
+use m161_reach::{Machines, tell_run};
 use std::alloc::{AllocError, Global};
 
 /// Makes the runs of lists of delays, by turns of so many Steps.
@@ -188,8 +187,6 @@ impl<'a, 'b> Runs for ListRuns<'a, 'b> {
         point: &RunPoint,
     ) -> Result<Tested<WrongRun>, AllocError> {
         let run = self.run_from(delays, point)?;
-        // So that the proof knows that events which hang were all accepted.
-        hanging_are_made();
         let task = self.task;
         match tell_run(self.alloc, self.ends, task.few, &run)? {
             Some(told) => Ok(Tested::Wrong(WrongRun { run, told })),

@@ -9,6 +9,7 @@ ghost use Rattle.m161_order.specs.Delays.{behind, delays_of};
 ghost use Rattle.m161_places.specs.Going.{PassesNoting};
 ghost use Rattle.m161_c.specs.helpers.Points.{KeepsFrom};
 
+use crate::asked::boot_core;
 use m161::{Console, Core, Tlb};
 use m161_delays::Delays;
 use m161_drive::{Cursor, Policy};
@@ -84,15 +85,6 @@ fn copy_events(alloc: Global, events: &[Event]) -> Result<Vec<Event>, AllocError
     let mut copy = Vec::with_capacity(alloc, events.len())?;
     copy.extend_from_slice(events)?;
     Ok(copy)
-}
-
-// The machine at boot, in a box.
-// For LLVM: a stack frame of its own.
-#[inline(never)]
-fn boot_core(alloc: Global, booted: &Booted<Tlb, Console>) -> Result<Box<Core>, AllocError>
-    ensures { IfOk result (λ core. core.value.state ≡ booted.now) }
-{
-    Ok(Box::new(alloc, booted.copy_core(alloc)?)?)
 }
 
 impl RunPoint {

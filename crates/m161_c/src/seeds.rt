@@ -7,20 +7,20 @@ ghost use Rattle.m161_c.specs.Driven.{order_in, rules_in};
 ghost use Rattle.m161_c.specs.Explored.{criteria_of};
 ghost use Rattle.m161_c.specs.Seeds.{IsSought, IsToldRun, SeeksAs, SeeksFrom, SeeksIn, SeeksOf, asked_with, number_of_event, seeded};
 ghost use Rattle.m161_c.specs.helpers.Seeking.{Begins, IsTried};
-ghost use Rattle.m161_c.specs.helpers.Telling.{BeginsAt};
+ghost use Rattle.m161_c.specs.helpers.Booting.{BeginsAt};
 
 use crate::answer::{OrderNumbers, Sought, WatchNumbers};
+use crate::asked::asked_core;
 use crate::driven::{gap_of, order_number, order_of};
 use crate::explored::watches_of;
 use crate::judged::audit_number;
 use crate::session::Session;
-use crate::told::{Told, asked_core, ends_of, tell_run};
 use crate::verdict::{NONE, search_verdict};
 use crate::{BAD, NO_MEMORY, NOTHING};
 use m161::{Conf, Console, Event, Tlb};
 use m161_drive::{Order, Policy};
 use m161_judge::{Booted, Goal, JudgedRun, judge_booted};
-use m161_reach::{Machines, hanging_are_made};
+use m161_reach::{Machines, Told, ends_of, tell_run};
 use m161_states::Known;
 use std::alloc::{AllocError, Global};
 use std::marker::Model;
@@ -128,8 +128,6 @@ pub(crate) fn make_run(
     let Ok(run) = judge_booted(alloc, booted, &policy, task.events, goal) else {
         return Err(AllocError);
     };
-    // So that the proof knows that events which hang were all accepted.
-    hanging_are_made();
     let told = tell_run(alloc, ends, task.few, &run)?;
     Ok(ToldRun { run, told })
 }

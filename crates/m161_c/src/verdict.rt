@@ -1,12 +1,12 @@
 //! The numbers of a verdict.
 
 ghost use Rattle.std.specs.Prelude.{◌≡◌};
-ghost use Rattle.m161_c.specs.Told.{search_verdict, told_numbers};
-ghost use Rattle.m161_c.specs.Verdicts.{as_run, run_verdict};
+ghost use Rattle.m161_c.specs.Judged.{told_numbers};
+ghost use Rattle.m161_c.specs.Verdicts.{as_run, run_verdict, search_verdict};
 
 use crate::answer::{Judgement, VerdictNumbers};
-use crate::told::{SearchVerdict, Told};
 use m161_judge::Verdict;
+use m161_reach::{SearchVerdict, Told};
 use m161_states::EventVerdict;
 
 /// No verdict.

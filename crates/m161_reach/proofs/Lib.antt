@@ -22,3 +22,4 @@ mod Naming
 mod Numbering
 mod Parts
 mod Marking
+mod Telling

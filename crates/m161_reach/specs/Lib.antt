@@ -12,4 +12,5 @@ pub mod Exploring
 pub mod From
 pub mod Hangs
 pub mod Named
+pub mod Told
 pub mod helpers

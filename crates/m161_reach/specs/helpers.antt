@@ -5,4 +5,5 @@ pub mod MetFrom
 pub mod Onward
 pub mod Path
 pub mod Restore
+pub mod Telling
 pub mod Walk

@@ -29,6 +29,7 @@ mod place;
 mod question;
 mod restore;
 mod system;
+mod told;
 mod walk;
 mod whole;
 
@@ -40,4 +41,5 @@ pub use machines::Machines;
 pub use named::{named_are_made, numbers_name};
 pub use place::Place;
 pub use question::can_be_asked;
+pub use told::{SearchVerdict, Told, ends_of, tell, tell_run};
 pub use whole::{Exploration, explore_machine, explore_machine_with};

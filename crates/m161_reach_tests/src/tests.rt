@@ -5,11 +5,12 @@ ghost use Rattle.m161_reach.specs.Reach.{IsAtBoot};
 
 use m161::Core;
 use m161_explore::Answer;
-use m161_judge::Goal;
+use m161_judge::{Goal, Judged, JudgedRun, Verdict};
 use m161_machine::{Conf, Event, LinkUnit};
 use m161_progress::Nobody;
 use m161_reach::{
-    Exploration, Machines, begin_machine, can_be_asked, explore_machine, first_hang, go_on_machine,
+    Exploration, Machines, SearchVerdict, Told, begin_machine, can_be_asked, ends_of,
+    explore_machine, first_hang, go_on_machine, tell, tell_run,
 };
 use m161_states::{EventVerdict, Known, Reads, Unknown};
 use m161_test_support::files::file_at;
@@ -328,5 +329,71 @@ fn events_of_no_list_hang_nowhere(rt: HostRuntime) -> Result<(), Fail> {
     }
     let keys = [Event::Key(65), Event::Key(65)];
     same(&rt, hang_of_events(&rt, &SPINS, &[65], &keys, 8)?, None);
+    Ok(())
+}
+
+/// Fails the test where a search has another verdict on one Step of a kernel, whose own verdict is this one,
+/// or on a run of that Step, which is cut or isn't.
+#[inline(never)]
+fn check_told(
+    rt: &(impl Abort + AllocGlobal),
+    words: &[u32],
+    few: u32,
+    judged: Option<Judged>,
+    is_cut: bool,
+    expected: (Option<Told>, Option<Told>),
+) -> Result<(), Fail> {
+    let core = booted(rt, words)?;
+    let goal = Goal {
+        watches: &[],
+        never: &[],
+        output: None,
+        keys: &[],
+    };
+    let ends = ends_of(&goal);
+    if !can_be_asked(&core, &ends) {
+        return Err(Fail::new("a machine at boot can be asked"));
+    }
+    let machines = Machines::new(rt.alloc(), &core, &ends, Known::nothing());
+    let mut events = Vec::new(rt.alloc());
+    events.push(Event::Step(0))?;
+    let list = tell(rt.alloc(), &machines, few, judged, &events)?;
+    same(rt, list, expected.0);
+    let run = JudgedRun {
+        events,
+        judged,
+        is_cut,
+    };
+    same(rt, tell_run(rt.alloc(), &machines, few, &run)?, expected.1);
+    Ok(())
+}
+
+/// That all of one event goes wrong in this way.
+fn wrong(verdict: Verdict) -> Option<Judged> {
+    Some(Judged { verdict, events: 1 })
+}
+
+#[test]
+fn hung_stands_between_the_verdicts(rt: HostRuntime) -> Result<(), Fail> {
+    let hung = Some(Told {
+        verdict: SearchVerdict::Hung,
+        events: 0,
+    });
+    let end = Some(Told {
+        verdict: SearchVerdict::Run(Verdict::End),
+        events: 1,
+    });
+    let stuck = Some(Told {
+        verdict: SearchVerdict::Run(Verdict::Stuck),
+        events: 1,
+    });
+    check_told(&rt, &SPINS, 2, None, true, (hung, hung))?;
+    check_told(&rt, &SPINS, 2, wrong(Verdict::End), true, (hung, hung))?;
+    check_told(&rt, &SPINS, 2, wrong(Verdict::Stuck), true, (stuck, stuck))?;
+    // by one view less, or by none
+    check_told(&rt, &SPINS, 1, wrong(Verdict::End), true, (end, end))?;
+    check_told(&rt, &SPINS, 0, wrong(Verdict::End), true, (end, end))?;
+    // a run that is over
+    check_told(&rt, &SPINS, 2, None, false, (hung, None))?;
     Ok(())
 }

@@ -7,7 +7,7 @@ use Rattle.m161_machine.specs.declared.event.Event.TheVariants.{Step, Key, Done}
 use Rattle.m161_shorten.specs.declared.judged.Judgement.{Judgement}
 use Rattle.m161_shorten.specs.Passes.{Shortens}
 use Rattle.s161_command.specs.declared.task.SearchTask.{SearchTask}
-use Rattle.s161_search.specs.declared.told.SearchVerdict.{SearchVerdict}
+use Rattle.m161_reach.specs.declared.told.SearchVerdict.{SearchVerdict}
 use Rattle.s161_search.specs.Given.{Given}
 use Rattle.s161_search.specs.Searches.{AreShortened, HasKindOf, judgement_behind, kind_number}
 

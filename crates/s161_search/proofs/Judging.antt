@@ -22,7 +22,7 @@ use Rattle.s161_base.specs.declared.fault.Fault.{Fault}
 use Rattle.m161_judge.specs.declared.verdict.Verdict.{Verdict}
 use Rattle.m161_judge.specs.declared.verdict.Verdict.TheVariants.{Stale, Reached, Conflict, Stuck, Output, End}
 use Rattle.m161_judge.specs.Verdict.{Criteria, IsJudged, rank}
-use Rattle.m161_reach.specs.Hangs.{HangingAreMade}
+use Rattle.m161_reach.specs.Told.{TellsRun, told_of}
 use Rattle.m161_states.specs.Question.{Question}
 use Rattle.m161_machine.specs.declared.event.Event.{Event}
 use Rattle.m161_machine.specs.History.{boot_fault}
@@ -38,12 +38,12 @@ use Rattle.s161_search.specs.declared.orders.WrongRun.{WrongRun}
 use Rattle.s161_search.specs.Searches.{ArePrinted, HasKind, IsJudgedAt, is_whole, kind_behind}
 use Rattle.s161_search.specs.declared.start.Start.{Start}
 use Rattle.s161_search.specs.declared.found.Printed.{Printed}
-use Rattle.s161_search.specs.declared.told.SearchVerdict.TheVariants as verdicts
-use Rattle.s161_search.specs.Told.{IsRunTold, told_of}
+use Rattle.m161_reach.specs.declared.told.SearchVerdict.TheVariants as verdicts
+use Rattle.s161_search.specs.Told.{IsRunToldAt}
 use Rattle.s161_search.specs.helpers.Begun.{BeginsAt, HasKindFrom}
 use Rattle.s161_search.specs.helpers.Delayed.{BeginsBehind, IsRightFrom, IsRunFrom, IsSeedRightFrom, IsSeedWrongFrom, IsTested, IsWrongFrom}
 use Rattle.s161_search.specs.helpers.Tried.{ArePrintedWith, IsTried}
-use Rattle.s161_search.specs.helpers.Telling.{Begins, TellsRun}
+use Rattle.s161_search.specs.helpers.Telling.{Begins}
 use Rattle.s161_search.proofs.Behind.{are_shortened, cut_parts, parts_of, take_needed}
 use Rattle.m161_machine.proofs.OneBoot.{booted_as_one}
 use Rattle.s161_search.proofs.Telling.{run_told}
@@ -112,9 +112,9 @@ low_when whole Output h = omega arith
 low_when whole End h = absurd (let bad : true ≡ false = h in cc)
 
 final_told : (cut : Bool) (task : SearchTask) (given : Given) (events : List Event) (last : Judged) → IsJudgedAt given events (Some last) → rank last.verdict < 5 →
-    IsRunTold cut task given events (Some (told_of last))
+    IsRunToldAt cut task given events (Some (told_of last))
 final_told true task given events last h low = (h.0, h.1, (h.2, inl low))
-final_told false task given events last h low = (h.0, Some last, h.1, h.2, refl)
+final_told false task given events last h low = (h.0, h.1, (Some last, h.2, refl))
 
 -- what the passes leave
 pub left_printed : (task : SearchTask) (given : Given) (events first rest fs : List Event) (judged last : Judged) (printed : Printed) →
@@ -202,42 +202,42 @@ judged_has_one given s events cut first behind left all judged k keeps one begin
 judged_of : (task : SearchTask) (given : Given) (order : Order) (run : JudgedRun) → IsRunOf task given order run → IsJudgedAt given run.events.items run.judged
 judged_of task given order run is = (is.booted, is.is_booted, is.judged)
 
-right_told : HangingAreMade → (s : State) (q : Question) (task : SearchTask) (given : Given) (order : Order) (run : JudgedRun) → Begins given s q → IsRunOf task given order run →
-    TellsRun run.is_cut task.hung q run.events.items run.judged None → IsRunTold run.is_cut task given run.events.items None
-right_told law s q task given order run begins is of =
-    run_told law run.is_cut task given s q run.events.items run.judged None begins (judged_of task given order run is) of
+right_told : (s : State) (q : Question) (task : SearchTask) (given : Given) (order : Order) (run : JudgedRun) → Begins given s q → IsRunOf task given order run →
+    TellsRun task.hung q run None → IsRunToldAt run.is_cut task given run.events.items None
+right_told s q task given order run begins is of =
+    run_told run.is_cut task given s q run.events.items run.judged None begins (judged_of task given order run is) of
 
-wrong_told : HangingAreMade → (s : State) (q : Question) (task : SearchTask) (given : Given) (order : Order) (run : JudgedRun) (wrong : WrongRun) → Begins given s q →
-    IsRunOf task given order run → wrong.run ≡ run → TellsRun run.is_cut task.hung q run.events.items run.judged (Some wrong.told) →
-    IsRunTold wrong.run.is_cut task given wrong.run.events.items (Some wrong.told)
-wrong_told law s q task given order run wrong begins is same of =
-    subst (λ (r : JudgedRun). IsRunTold r.is_cut task given r.events.items (Some wrong.told)) (sym same)
-    (run_told law run.is_cut task given s q run.events.items run.judged (Some wrong.told) begins (judged_of task given order run is) of)
+wrong_told : (s : State) (q : Question) (task : SearchTask) (given : Given) (order : Order) (run : JudgedRun) (wrong : WrongRun) → Begins given s q →
+    IsRunOf task given order run → wrong.run ≡ run → TellsRun task.hung q run (Some wrong.told) →
+    IsRunToldAt wrong.run.is_cut task given wrong.run.events.items (Some wrong.told)
+wrong_told s q task given order run wrong begins is same of =
+    subst (λ (r : JudgedRun). IsRunToldAt r.is_cut task given r.events.items (Some wrong.told)) (sym same)
+    (run_told run.is_cut task given s q run.events.items run.judged (Some wrong.told) begins (judged_of task given order run is) of)
 
-pub seed_judged : HangingAreMade → (start : Start) (q : Question) (task : SearchTask) (given : Given) (k : ℕ) (run : JudgedRun) (tested : Tested WrongRun) →
+pub seed_judged : (start : Start) (q : Question) (task : SearchTask) (given : Given) (k : ℕ) (run : JudgedRun) (tested : Tested WrongRun) →
     IsRunFrom start task given (with_seed (seed_at task.drive.order k) task.drive.order) run → IsTested task.hung q run tested →
     IsJudgedTrial (IsSeedRightFrom start q task given k) (IsSeedWrongFrom start q task given k) tested
-seed_judged law start q task given k run (Right is_cut) is h = λ behind.
+seed_judged start q task given k run (Right is_cut) is h = λ behind.
     let order = with_seed (seed_at task.drive.order k) task.drive.order in
     let made = (is (behind.0, behind.1.boots, behind.2)).0 in
-    (run, made, right_told law behind.0 q task given order run behind.1 made h.0, h.1)
-seed_judged law start q task given k run (Wrong wrong) is h = λ behind.
+    (run, made, right_told behind.0 q task given order run behind.1 made h.0, h.1)
+seed_judged start q task given k run (Wrong wrong) is h = λ behind.
     let order = with_seed (seed_at task.drive.order k) task.drive.order in
     let made = (is (behind.0, behind.1.boots, behind.2)).0 in
-    (subst (IsRunAt task given k) (sym h.0) made, wrong_told law behind.0 q task given order run wrong behind.1 made h.0 h.1)
+    (subst (IsRunAt task given k) (sym h.0) made, wrong_told behind.0 q task given order run wrong behind.1 made h.0 h.1)
 
-pub list_judged : HangingAreMade → (start : Start) (q : Question) (task : SearchTask) (given : Given) (steps : ℕ) (delays : Delays) (run : JudgedRun) (tested : Tested WrongRun) →
+pub list_judged : (start : Start) (q : Question) (task : SearchTask) (given : Given) (steps : ℕ) (delays : Delays) (run : JudgedRun) (tested : Tested WrongRun) →
     IsRunFrom start task given (Delayed steps delays) run → IsTested task.hung q run tested →
     IsJudgedTrial (IsRightFrom start q task given steps (delays_of delays)) (IsWrongFrom start q task given steps (delays_of delays)) tested
-list_judged law start q task given steps delays run (Right is_cut) is h = λ behind.
+list_judged start q task given steps delays run (Right is_cut) is h = λ behind.
     let made = is (behind.0, behind.1.boots, behind.2) in
-    (delays, run, refl, made.0, right_told law behind.0 q task given (Delayed steps delays) run behind.1 made.0 h.0, h.1, made.1)
-list_judged law start q task given steps delays run (Wrong wrong) is h = λ behind.
+    (delays, run, refl, made.0, right_told behind.0 q task given (Delayed steps delays) run behind.1 made.0 h.0, h.1, made.1)
+list_judged start q task given steps delays run (Wrong wrong) is h = λ behind.
     let made = (is (behind.0, behind.1.boots, behind.2)).0 in (
       delays,
       refl,
       subst (IsRunOf task given (Delayed steps delays)) (sym h.0) made,
-      wrong_told law behind.0 q task given (Delayed steps delays) run wrong behind.1 made h.0 h.1,
+      wrong_told behind.0 q task given (Delayed steps delays) run wrong behind.1 made h.0 h.1,
     )
 
 -- what came of the seeds

@@ -13,10 +13,10 @@ use Rattle.m161_places.specs.Laws.{offered}
 use Rattle.s161_command.specs.declared.class.DelayClass.{DelayClass}
 use Rattle.s161_command.specs.declared.task.SearchTask.{SearchTask}
 use Rattle.s161_run.specs.Driven.{rules_of}
-use Rattle.s161_search.specs.declared.told.Told.{Told}
+use Rattle.m161_reach.specs.declared.told.Told.{Told}
 use Rattle.s161_search.specs.Given.{Given}
 use Rattle.s161_search.specs.Runs.{IsBehindFirst, IsRunOf, most_of}
-use Rattle.s161_search.specs.Told.{IsRunTold}
+use Rattle.s161_search.specs.Told.{IsRunToldAt}
 
 -- The runs that a search by delays makes.
 
@@ -35,14 +35,14 @@ offered_by task given steps u =
 abbrev pub HasRightRun : SearchTask → Given → ℕ → List ℕ → Bool → Type 0
 HasRightRun task given steps numbers is_cut =
     (delays : Delays) × (run : JudgedRun) × (delays_of delays ≡ numbers)
-    × IsRunOf task given (Delayed steps delays) run × IsRunTold run.is_cut task given run.events.items None
+    × IsRunOf task given (Delayed steps delays) run × IsRunToldAt run.is_cut task given run.events.items None
     × (run.is_cut ≡ is_cut)
 
 -- the run of these delays has no verdict
 abbrev pub IsRightBy : SearchTask → Given → ℕ → Delays → Type 0
 IsRightBy task given steps delays =
     (run : JudgedRun) × IsRunOf task given (Delayed steps delays) run
-    × IsRunTold run.is_cut task given run.events.items None
+    × IsRunToldAt run.is_cut task given run.events.items None
 
 -- no list of a class has a run that goes wrong; its useful lists have different runs, so many of which
 -- so many are cut, as far as 64 bits can say it
@@ -68,6 +68,6 @@ pub record IsFirstBy
   pub delays : Delays
   pub delays_are : delays_of delays ≡ numbers
   pub is_run : IsRunOf task given (Delayed steps delays) run
-  pub wrong : IsRunTold run.is_cut task given run.events.items (Some told)
+  pub wrong : IsRunToldAt run.is_cut task given run.events.items (Some told)
   pub before : (others : Delays) → IsOf class (delays_of others) →
       ComesBefore (delays_of others) numbers → IsRightBy task given steps others

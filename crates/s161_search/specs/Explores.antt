@@ -20,7 +20,7 @@ use Rattle.m161_text.specs.Lines.{with_line_end}
 use Rattle.m161_text.specs.Parts.{◌␣◌}
 use Rattle.s161_command.specs.declared.task.ExploreTask.{ExploreTask}
 use Rattle.s161_command.specs.declared.task.SearchTask.{SearchTask}
-use Rattle.s161_search.specs.declared.told.SearchVerdict.TheVariants as told
+use Rattle.m161_reach.specs.declared.told.SearchVerdict.TheVariants as told
 use Rattle.s161_search.specs.Given.{Given, criteria_of}
 use Rattle.s161_search.specs.Notes.{Notes}
 use Rattle.s161_search.specs.Searches.{IsGiven}

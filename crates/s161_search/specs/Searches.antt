@@ -15,9 +15,9 @@ use Rattle.s161_base.specs.Listed.{OfFirst}
 use Rattle.s161_base.specs.Reading.{IsTextUnread}
 use Rattle.s161_command.specs.declared.task.SearchTask.{SearchTask}
 use Rattle.s161_run.specs.Driven.{IsKeysFile, IsOrderFault}
-use Rattle.s161_search.specs.declared.told.SearchVerdict.{SearchVerdict}
-use Rattle.s161_search.specs.declared.told.SearchVerdict.TheVariants.{Run, Hung}
-use Rattle.s161_search.specs.declared.told.Told.{Told}
+use Rattle.m161_reach.specs.declared.told.SearchVerdict.{SearchVerdict}
+use Rattle.m161_reach.specs.declared.told.SearchVerdict.TheVariants.{Run, Hung}
+use Rattle.m161_reach.specs.declared.told.Told.{Told}
 use Rattle.s161_search.specs.Given.{Given, IsBadLine, IsRead, criteria_of}
 use Rattle.s161_search.specs.Never.{AreAddresses, LacksAddress, symbols_in}
 use Rattle.s161_search.specs.Notes.{Notes}
@@ -28,7 +28,7 @@ use Rattle.m161_order.specs.declared.order.Order.TheVariants.{Turns}
 use Rattle.s161_command.specs.declared.class.DelayClass.{DelayClass}
 use Rattle.s161_search.specs.Delays.{AreCleanBy, IsFirstBy, class_of}
 use Rattle.s161_search.specs.Texts.{clean_text, delays_text, found_text, seed_text}
-use Rattle.s161_search.specs.Told.{IsRunTold, IsToldAt}
+use Rattle.s161_search.specs.Told.{IsRunToldAt, IsToldAt}
 use Rattle.s161_search.specs.Unstored.{ListsUnstored, SeedsUnstored}
 
 -- The output and the exit status of `search`, and what it says on standard error.
@@ -116,7 +116,7 @@ pub record IsFound (task : SearchTask) (given : Given) (text : List ℕ) : Type 
   pub are_printed :
       ArePrinted (is_whole task.whole told.verdict) task given run.events.items told events
   pub final : Told
-  pub is_told : IsRunTold run.is_cut task given events (Some final)
+  pub is_told : IsRunToldAt run.is_cut task given events (Some final)
   pub same_kind : kind_number final.verdict ≡ kind_number told.verdict
   pub text_is : text ≡ found_text given.conf (seed_text (seed_at task.drive.order place)) final.verdict events
 
@@ -137,7 +137,7 @@ pub record IsFoundBy
   pub are_printed :
       ArePrinted (is_whole task.whole told.verdict) task given run.events.items told events
   pub final : Told
-  pub is_told : IsRunTold run.is_cut task given events (Some final)
+  pub is_told : IsRunToldAt run.is_cut task given events (Some final)
   pub same_kind : kind_number final.verdict ≡ kind_number told.verdict
   pub text_is : text ≡ found_text given.conf (delays_text numbers) final.verdict events
 

@@ -6,10 +6,10 @@ use Rattle.m161_judge.specs.declared.run.JudgedRun.{JudgedRun}
 use Rattle.m161_order.specs.declared.order.Order.{Order}
 use Rattle.m161_order.specs.declared.order.Order.TheVariants.{Turns, Delayed, Random, Priorities}
 use Rattle.s161_command.specs.declared.task.SearchTask.{SearchTask}
-use Rattle.s161_search.specs.declared.told.Told.{Told}
+use Rattle.m161_reach.specs.declared.told.Told.{Told}
 use Rattle.s161_search.specs.Given.{Given}
 use Rattle.s161_search.specs.Runs.{IsRunOf}
-use Rattle.s161_search.specs.Told.{IsRunTold}
+use Rattle.s161_search.specs.Told.{IsRunToldAt}
 
 -- The seeds that a search tries.
 
@@ -38,7 +38,7 @@ IsRunAt task given k = IsRunOf task given (with_seed (seed_at task.drive.order k
 -- run k has no verdict, and is cut or isn't
 abbrev pub IsRightAt : SearchTask → Given → ℕ → Bool → Type 0
 IsRightAt task given k is_cut =
-    (run : JudgedRun) × IsRunAt task given k run × IsRunTold run.is_cut task given run.events.items None
+    (run : JudgedRun) × IsRunAt task given k run × IsRunToldAt run.is_cut task given run.events.items None
     × (run.is_cut ≡ is_cut)
 
 -- none of the first n runs goes wrong, and so many of them are cut
@@ -51,4 +51,4 @@ pub record IsFirstWrong
   pub within : place < task.seeds
   pub before : AreRightBelow (IsRightAt task given) place
   pub is_run : IsRunAt task given place run
-  pub wrong : IsRunTold run.is_cut task given run.events.items (Some told)
+  pub wrong : IsRunToldAt run.is_cut task given run.events.items (Some told)

@@ -6,8 +6,8 @@ use Rattle.m161_machine.specs.declared.event.Event.{Event}
 use Rattle.m161_steplog.specs.Written.{schedule_text}
 use Rattle.m161_text.specs.Lines.{with_line_end}
 use Rattle.m161_text.specs.Parts.{◌␣◌, word_text}
-use Rattle.s161_search.specs.declared.told.SearchVerdict.{SearchVerdict}
-use Rattle.s161_search.specs.declared.told.SearchVerdict.TheVariants.{Run, Hung}
+use Rattle.m161_reach.specs.declared.told.SearchVerdict.{SearchVerdict}
+use Rattle.m161_reach.specs.declared.told.SearchVerdict.TheVariants.{Run, Hung}
 use Rattle.m161_machine.specs.declared.conf.Conf.{Conf}
 use Rattle.s161_base.specs.Sizes.{size_line_text}
 use Rattle.s161_search.specs.Audits.{finding_text}

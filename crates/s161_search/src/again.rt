@@ -8,11 +8,10 @@ ghost use Rattle.s161_search.specs.helpers.Inputs.{given_of};
 
 use crate::inputs::Inputs;
 use crate::points::copy_events;
-use crate::told::{SearchVerdict, Told, tell};
 use m161::{Console, Tlb};
 use m161_judge::{Booted, Judged, Verdict, judge_events};
 use m161_machine::Event;
-use m161_reach::{Machines, hanging_are_made};
+use m161_reach::{Machines, SearchVerdict, Told, tell};
 use m161_shorten::{Judge, Judgement};
 use std::alloc::{AllocError, Global};
 
@@ -156,8 +155,6 @@ impl<'a> Judge for HangJudge<'a> {
     fn judge(&mut self, events: &[Event]) -> Result<Option<Judgement<u8>>, AllocError> {
         let all = joined(self.alloc, self.first, events)?;
         let judged = judge_again(self.alloc, self.booted, self.inputs, &all)?;
-        // So that the proof knows that events which hang were all accepted.
-        hanging_are_made();
         let told = tell(self.alloc, self.ends, self.few, judged, &all)?;
         Ok(hang_behind(self.first.len(), told))
     }

@@ -9,10 +9,10 @@ ghost use Rattle.s161_search.specs.Explores.{PrintsAnswer, at_place, limit_of, o
 ghost use Rattle.s161_search.specs.Texts.{found_text};
 
 use crate::texts::{clean_line, found_lines};
-use crate::told::SearchVerdict;
 use m161_explore::Answer;
 use m161_judge::Verdict;
 use m161_machine::{Conf, Event};
+use m161_reach::SearchVerdict;
 use m161_states::{EventVerdict, Unknown};
 use s161_base::finished::Finished;
 use s161_command::ExploreTask;

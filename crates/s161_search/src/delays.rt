@@ -16,7 +16,6 @@ use crate::points::{RunPoint, go_along};
 use m161_delays::{Class, Delays, Runs, Searched, Tested, search_lists};
 use m161_drive::Policy;
 use m161_order::Order;
-use m161_reach::hanging_are_made;
 use s161_base::fault::Fault;
 use s161_command::DelayClass;
 use s161_progress::Unit;
@@ -158,8 +157,6 @@ impl<'a, 'b> Runs for DelayedRuns<'a, 'b> {
             delays,
             point,
         )?;
-        // So that the proof knows that events which hang were all accepted.
-        hanging_are_made();
         let tested = tested(self.basis.alloc, self.basis.ends, self.basis.task.hung, run)?;
         self.basis.progress.add(1);
         Ok(tested)

@@ -5,20 +5,20 @@ ghost use Rattle.m161_shorten.specs.Passes.{Shortens};
 ghost use Rattle.m161_shorten.specs.Verdicts.{AreNeeded};
 ghost use Rattle.s161_search.specs.helpers.Begun.{BeginsAt, HasKindFrom};
 ghost use Rattle.s161_search.specs.helpers.Inputs.{given_of};
-ghost use Rattle.s161_search.specs.declared.told.SearchVerdict.TheVariants as verdicts;
+ghost use Rattle.m161_reach.specs.declared.told.SearchVerdict.TheVariants as verdicts;
 ghost use Rattle.s161_search.specs.Searches.{IsJudgedAt, is_whole};
-ghost use Rattle.s161_search.specs.Told.{IsRunTold, IsToldAt, told_of};
+ghost use Rattle.m161_reach.specs.Told.{told_of};
+ghost use Rattle.s161_search.specs.Told.{IsRunToldAt, IsToldAt};
 ghost use Rattle.s161_search.specs.helpers.Telling.{Begins, HasHangFrom};
 ghost use Rattle.s161_search.specs.helpers.Tried.{ArePrintedWith};
 
 use crate::again::{HUNG, HangJudge, KindJudge, judge_again, rank};
 use crate::inputs::Inputs;
 use crate::points::copy_events;
-use crate::told::{SearchVerdict, Told};
 use m161::{Console, Tlb};
 use m161_judge::{Booted, Judged, Verdict, cut_keeps_verdict, first_is_no_worse, one_verdict};
 use m161_machine::Event;
-use m161_reach::{Machines, cut_keeps_hang};
+use m161_reach::{Machines, SearchVerdict, Told, cut_keeps_hang};
 use m161_shorten::shorten;
 use s161_command::SearchTask;
 use std::alloc::{AllocError, Global};
@@ -181,7 +181,7 @@ pub(crate) fn print_of(
     events: Vec<Event>,
 ) -> Result<Printed, AllocError>
     requires begins { Begins (given_of inputs.now) booted.now ends.now }
-    requires told { IsRunTold cut task (given_of inputs.now) events.items (Some told) }
+    requires told { IsRunToldAt cut task (given_of inputs.now) events.items (Some told) }
     ensures { IfOk result (ArePrintedWith cut task.entry (given_of inputs.now) events.items told) }
 {
     if is_whole(task.whole, told.verdict) {

@@ -8,7 +8,7 @@ ghost use Rattle.s161_base.specs.Samples.{image_file};
 ghost use Rattle.s161_run.specs.Driven.{IsKeysFile};
 ghost use Rattle.s161_search.specs.Given.{IsOutputOf, IsRead, criteria_of, search_files};
 ghost use Rattle.s161_search.specs.Runs.{most_of};
-ghost use Rattle.s161_search.specs.Told.{ends_of};
+ghost use Rattle.m161_reach.specs.Told.{ends_of};
 ghost use Rattle.s161_search.specs.helpers.Inputs.{given_of};
 ghost use Rattle.s161_search.specs.Searches.{IsSearchFault};
 ghost use Rattle.s161_search.specs.helpers.Watches.{AreWatchesIn, IsFaultIn};
@@ -17,6 +17,7 @@ use crate::watches::watches_of;
 use m161_audit::Watch;
 use m161_judge::Goal;
 use m161_machine::{Event, Events};
+use m161_reach::ends_of;
 use s161_base::fault::Fault;
 use s161_base::files::FileSource;
 use s161_base::input::{read_file, read_text_if};
@@ -80,12 +81,7 @@ impl Inputs {
     pub(crate) fn ends(&self) -> Goal<'_>
         ensures { result ≡ ends_of (criteria_of (given_of self.now)) }
     {
-        Goal {
-            watches: &[],
-            never: &[],
-            output: self.output(),
-            keys: &self.all_keys,
-        }
+        ends_of(&self.goal())
     }
 }
 

@@ -21,5 +21,4 @@ mod seed_stores;
 mod seeds;
 mod start;
 mod texts;
-pub mod told;
 pub mod watches;

@@ -14,18 +14,16 @@ ghost use Rattle.s161_search.specs.Given.{criteria_of};
 ghost use Rattle.s161_search.specs.Runs.{most_of};
 ghost use Rattle.s161_search.specs.helpers.Inputs.{given_of};
 ghost use Rattle.s161_search.specs.helpers.Points.{IsPointOf};
-ghost use Rattle.s161_search.specs.helpers.Telling.{TellsRun};
 
 use crate::inputs::Inputs;
 use crate::points::{BegunRun, RunPoint};
 use crate::start::Start;
-use crate::told::{Told, tell, told_of};
 use m161::{Console, Tlb};
 use m161_drive::{Cursor, Policy};
 use m161_jobs::Tested;
 use m161_judge::{First, JudgedRun, judge_rest};
 use m161_order::{Delays, Order};
-use m161_reach::Machines;
+use m161_reach::{Machines, Told, tell_run};
 use s161_base::fault::Fault;
 use s161_command::SearchTask;
 use std::alloc::{AllocError, Global};
@@ -37,22 +35,6 @@ pub(crate) struct WrongRun {
     pub run: JudgedRun,
     /// Its verdict.
     pub told: Told,
-}
-
-// The verdict of a run. One that isn't cut is over, so it isn't looked at.
-fn tell_run(
-    alloc: Global,
-    ends: &Machines<'_, Tlb, Console>,
-    few: u32,
-    run: &JudgedRun,
-) -> Result<Option<Told>, AllocError>
-    ensures { IfOk result (TellsRun run.now.is_cut few ends.now run.now.events.items run.now.judged) }
-{
-    if run.is_cut {
-        tell(alloc, ends, few, run.judged, &run.events)
-    } else {
-        Ok(told_of(run.judged))
-    }
 }
 
 /// What became of a run; so many states behind it may be looked at.

@@ -16,7 +16,7 @@ ghost use Rattle.s161_search.specs.Texts.{clean_text};
 ghost use Rattle.s161_search.specs.Searches.{IsFound, IsSearched, IsSearchFault, Prints};
 ghost use Rattle.s161_search.specs.Runs.{IsRunFault};
 ghost use Rattle.s161_search.specs.Seeds.{IsFirstWrong};
-ghost use Rattle.s161_search.specs.Told.{IsRunTold};
+ghost use Rattle.s161_search.specs.Told.{IsRunToldAt};
 ghost use Rattle.s161_search.specs.helpers.Telling.{Begins};
 ghost use Rattle.s161_search.specs.helpers.Tried.{IsListed};
 
@@ -288,7 +288,7 @@ fn listed_text(
     wrong: WrongRun,
 ) -> Result<Vec<u8>, AllocError>
     requires begins { Begins (given_of basis.now.inputs.now) basis.now.booted.now basis.now.ends.now }
-    requires wrong { IsRunTold wrong.run.is_cut basis.now.task (given_of basis.now.inputs.now) wrong.run.events.items (Some wrong.told) }
+    requires wrong { IsRunToldAt wrong.run.is_cut basis.now.task (given_of basis.now.inputs.now) wrong.run.events.items (Some wrong.told) }
     ensures { IfOk result (λ text. IsListed basis.now.task (given_of basis.now.inputs.now) (delays_of delays.now) wrong text.items) }
 {
     let line = delays_line(basis.alloc, delays.as_slice())?;

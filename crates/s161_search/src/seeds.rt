@@ -15,7 +15,6 @@ use m161::{Console, Tlb};
 use m161_jobs::{Tested, Trials, Tried, try_each};
 use m161_judge::Booted;
 use m161_order::Order;
-use m161_reach::hanging_are_made;
 use s161_base::fault::Fault;
 use s161_progress::Unit;
 use std::alloc::Global;
@@ -99,8 +98,6 @@ impl<'a, 'b> Trials for Basis<'a, 'b> {
     fn judge(&self, place: u32) -> Result<Tested<WrongRun>, Fault<'a>> {
         let order = order_at(self.task.drive.order, place);
         let run = run_order(self.alloc, self.start, self.task, self.inputs, order)?;
-        // So that the proof knows that events which hang were all accepted.
-        hanging_are_made();
         let tested = tested(self.alloc, self.ends, self.task.hung, run)?;
         self.progress.add(1);
         Ok(tested)

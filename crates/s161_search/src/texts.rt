@@ -6,10 +6,10 @@ ghost use Rattle.m161_text.specs.Parts.{◌␣◌};
 ghost use Rattle.s161_search.specs.Texts.{clean_text, delays_text, found_text, numbers_text, seed_text, told_text, verdict_text};
 
 use crate::audit::ShownFinding;
-use crate::told::SearchVerdict;
 use m161_audit::Finding;
 use m161_judge::Verdict;
 use m161_machine::{Conf, Event};
+use m161_reach::SearchVerdict;
 use m161_steplog::write_schedule;
 use m161_text::Word;
 use s161_base::sizes::line_of_machine;

@@ -1,10 +1,11 @@
 use Rattle.std.specs.Prelude.{◌≡◌, ◌<◌, ℕ, Option, None, Some}
 use Rattle.m161_machine.specs.State.{State}
 use Rattle.m161_order.specs.declared.order.Order.{Order}
+use Rattle.m161_reach.specs.Told.{AsksEnds}
 use Rattle.m161_states.specs.Question.{Question}
 use Rattle.m161_c.specs.declared.seeds.Tried.{Tried}
 use Rattle.m161_c.specs.declared.seeds.WrongRun.{WrongRun}
-use Rattle.m161_c.specs.helpers.Telling.{AsksEnds, BeginsAt}
+use Rattle.m161_c.specs.helpers.Booting.{BeginsAt}
 use Rattle.m161_c.specs.Seeds.{AreRight, Asked, IsToldRun, seeded}
 
 -- A search by seeds before it is told.

@@ -15,10 +15,11 @@ use Rattle.s161_search.specs.declared.start.Start.{Start}
 use Rattle.s161_search.specs.Given.{Given}
 use Rattle.s161_search.specs.Runs.{IsRunOf}
 use Rattle.s161_search.specs.Seeds.{IsRightAt, IsRunAt}
+use Rattle.m161_reach.specs.Told.{TellsRun}
 use Rattle.m161_states.specs.Question.{Question}
-use Rattle.s161_search.specs.Told.{IsRunTold}
+use Rattle.s161_search.specs.Told.{IsRunToldAt}
 use Rattle.s161_search.specs.helpers.Begun.{BeginsAt, IsStarted}
-use Rattle.s161_search.specs.helpers.Telling.{Begins, TellsRun}
+use Rattle.s161_search.specs.helpers.Telling.{Begins}
 
 -- What is known of runs from what may be the start of a search.
 
@@ -41,7 +42,7 @@ abbrev pub HasRightRunAt : State → SearchTask → Given → ℕ → List ℕ �
 HasRightRunAt u task given steps numbers is_cut =
     (delays : Delays) × (run : JudgedRun) × (delays_of delays ≡ numbers)
     × (is : IsRunOf task given (Delayed steps delays) run)
-    × IsRunTold run.is_cut task given run.events.items None × (run.is_cut ≡ is_cut)
+    × IsRunToldAt run.is_cut task given run.events.items None × (run.is_cut ≡ is_cut)
     × (is.goes.between ≡ u)
 
 abbrev pub IsRightFrom : Start → Question → SearchTask → Given → ℕ → List ℕ → Bool → Type 0
@@ -53,7 +54,7 @@ abbrev pub IsWrongFrom : Start → Question → SearchTask → Given → ℕ →
 IsWrongFrom start q task given steps numbers wrong =
     BeginsBehind given start q → (delays : Delays) × (delays_of delays ≡ numbers)
     × IsRunOf task given (Delayed steps delays) wrong.run
-    × IsRunTold wrong.run.is_cut task given wrong.run.events.items (Some wrong.told)
+    × IsRunToldAt wrong.run.is_cut task given wrong.run.events.items (Some wrong.told)
 
 -- the same of the seeds
 
@@ -65,7 +66,7 @@ abbrev pub IsSeedWrongFrom : Start → Question → SearchTask → Given → ℕ
 IsSeedWrongFrom start q task given k wrong =
     BeginsBehind given start q
     → IsRunAt task given k wrong.run
-    × IsRunTold wrong.run.is_cut task given wrong.run.events.items (Some wrong.told)
+    × IsRunToldAt wrong.run.is_cut task given wrong.run.events.items (Some wrong.told)
 
 -- behind a start only memory can be refused
 abbrev pub IsNoMemory : Fault → Type 0
@@ -74,6 +75,6 @@ IsNoMemory fault = fault ≡ Memory
 -- what became of a run, where so many states behind it may be looked at, of which this is asked
 abbrev pub IsTested : ℕ → Question → JudgedRun → Tested WrongRun → Type 0
 IsTested few q run (Right is_cut) =
-    TellsRun run.is_cut few q run.events.items run.judged None × (run.is_cut ≡ is_cut)
+    TellsRun few q run None × (run.is_cut ≡ is_cut)
 IsTested few q run (Wrong wrong) =
-    (wrong.run ≡ run) × TellsRun run.is_cut few q run.events.items run.judged (Some wrong.told)
+    (wrong.run ≡ run) × TellsRun few q run (Some wrong.told)

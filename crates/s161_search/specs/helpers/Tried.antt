@@ -12,10 +12,10 @@ use Rattle.m161_delays.specs.declared.search.Searched.{Searched}
 use Rattle.m161_delays.specs.declared.search.Searched.TheVariants as searched
 use Rattle.m161_order.specs.Delays.{delays_of}
 use Rattle.s161_search.specs.declared.orders.WrongRun.{WrongRun}
-use Rattle.s161_search.specs.declared.told.Told.{Told}
+use Rattle.m161_reach.specs.declared.told.Told.{Told}
 use Rattle.s161_search.specs.Delays.{AreCleanBy, IsFirstBy}
 use Rattle.s161_search.specs.Texts.{delays_text, found_text}
-use Rattle.s161_search.specs.Told.{IsRunTold}
+use Rattle.s161_search.specs.Told.{IsRunToldAt}
 
 -- What came of the seeds, and what is printed of it.
 
@@ -36,7 +36,7 @@ pub record ArePrintedWith
       ArePrinted (is_whole task.whole told.verdict) task given events told printed.events.items
   pub final : Told
   pub verdict_is : printed.verdict ≡ final.verdict
-  pub is_told : IsRunTold cut task given printed.events.items (Some final)
+  pub is_told : IsRunToldAt cut task given printed.events.items (Some final)
   pub same_kind : kind_number final.verdict ≡ kind_number told.verdict
 
 -- what is printed of a run that goes wrong, behind the numbers of its list
@@ -46,6 +46,6 @@ pub record IsListed
   pub are_printed :
       ArePrinted (is_whole task.whole wrong.told.verdict) task given wrong.run.events.items wrong.told events
   pub final : Told
-  pub is_told : IsRunTold wrong.run.is_cut task given events (Some final)
+  pub is_told : IsRunToldAt wrong.run.is_cut task given events (Some final)
   pub same_kind : kind_number final.verdict ≡ kind_number wrong.told.verdict
   pub text_is : text ≡ found_text given.conf (delays_text numbers) final.verdict events

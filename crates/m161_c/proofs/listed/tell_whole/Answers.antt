@@ -6,7 +6,7 @@ use Rattle.m161_order.specs.Delays.{delays_of}
 use Rattle.m161_c.specs.declared.answer.SoughtList.{SoughtList}
 use Rattle.m161_c.specs.Delays.{HasRightRun, HasWrongRun, offered_by}
 use Rattle.m161_c.proofs.Listing.{each_right, right_before}
-use Rattle.m161_c.proofs.Telling.{begun}
+use Rattle.m161_c.proofs.Booting.{begun}
 use Rattle.m161_c.proofs.listed.tell_whole.Goals as goal
 
 pub returns-in-Clean : goal.returns-in-Clean

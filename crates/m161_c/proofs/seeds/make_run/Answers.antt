@@ -16,6 +16,6 @@ returns c =
     let told = c.in_ok-told.told in
     let begins : Begins a s q = subst (λ x. Begins x s q) (sym c.task.view_is) c.requires in
     subst (λ x. IsToldRun x c.args.order run told) c.task.view_is
-    (told_run c.hanging_are_made.ensures.law a s q c.args.order c.in_ok-policy.policy run told begins
+    (told_run a s q c.args.order c.in_ok-policy.policy run told begins
     (c.in_ok-policy.ensures ∙ ap (λ (g : Criteria). rules_in i.numbers c.args.order g.keys) c.goal.view_is) (c.in-Ok.ensures a.file a.conf begins.boots)
     c.in_ok-told.ensures)

@@ -1,6 +1,6 @@
 use Rattle.std.proofs.Common.{◌∙◌, refl, subst, sym}
 use Rattle.std.specs.Prelude.{IfOk}
-use Rattle.s161_search.specs.declared.told.SearchVerdict.TheVariants.{Hung}
+use Rattle.m161_reach.specs.declared.told.SearchVerdict.TheVariants.{Hung}
 use Rattle.s161_search.specs.helpers.Inputs.{given_of}
 use Rattle.s161_search.specs.helpers.Tried.{ArePrintedWith}
 use Rattle.s161_search.proofs.Telling.{hung_needs, run_needs, whole_printed}

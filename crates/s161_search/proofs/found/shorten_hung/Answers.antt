@@ -1,5 +1,5 @@
 use Rattle.std.proofs.Common.{◌≡◌, ◌∙◌, ◌++◌, ap, sym, length, take, drop, refl}
-use Rattle.s161_search.specs.declared.told.SearchVerdict.TheVariants.{Hung}
+use Rattle.m161_reach.specs.declared.told.SearchVerdict.TheVariants.{Hung}
 use Rattle.s161_search.specs.helpers.Inputs.{given_of}
 use Rattle.s161_search.proofs.Telling.{hung_printed}
 use Rattle.s161_search.proofs.found.shorten_hung.Goals as goal

@@ -1,5 +1,5 @@
 use Rattle.std.proofs.Common.{◌≡◌, ◌∙◌, ◌++◌, ap, sym, length, take, drop, Some, refl, subst}
-use Rattle.s161_search.specs.declared.told.SearchVerdict.TheVariants as verdicts
+use Rattle.m161_reach.specs.declared.told.SearchVerdict.TheVariants as verdicts
 use Rattle.s161_search.specs.helpers.Inputs.{given_of}
 use Rattle.s161_search.specs.Searches.{IsJudgedAt}
 use Rattle.s161_search.proofs.Judging.{judged_has_one, judged_printed}

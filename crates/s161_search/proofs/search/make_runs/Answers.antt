@@ -3,8 +3,8 @@ use Rattle.m161_judge.specs.Verdict.{Criteria}
 use Rattle.m161_machine.specs.State.{CoreValue, State}
 use Rattle.m161_reach.specs.From.{asked_of, no_time, with_known}
 use Rattle.m161_reach.specs.Reach.{CanBeAsked}
+use Rattle.m161_reach.specs.Told.{ends_of}
 use Rattle.s161_search.specs.Given.{criteria_of}
-use Rattle.s161_search.specs.Told.{ends_of}
 use Rattle.s161_search.specs.helpers.Inputs.{given_of}
 use Rattle.s161_search.proofs.Booting.{begins}
 use Rattle.s161_search.proofs.search.make_runs.Goals as goal
@@ -22,8 +22,10 @@ make_orders-requires-clause-begins g c = λ κs outlive.
     let can : CanBeAsked c.deref-core.result.now.state c.ends-goal.result = search rules in
     record {
       boots = c.requires.booted;
-      can =
-          subst (λ (x : State). CanBeAsked x criteria) state
-          (subst (λ (k : Criteria). CanBeAsked c.deref-core.result.now.state k) c.ends-goal.ensures can);
-      asks = ap (with_known no_time) c.new-ends.ensures ∙ (λ i. asked_of (state i) (c.ends-goal.ensures i));
+      asks = record {
+        can =
+            subst (λ (x : State). CanBeAsked x criteria) state
+            (subst (λ (k : Criteria). CanBeAsked c.deref-core.result.now.state k) c.ends-goal.ensures can);
+        asks = ap (with_known no_time) c.new-ends.ensures ∙ (λ i. asked_of (state i) (c.ends-goal.ensures i));
+      };
     }

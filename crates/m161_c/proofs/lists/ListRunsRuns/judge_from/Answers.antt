@@ -1,6 +1,6 @@
 use Rattle.std.proofs.Common.{subst}
+use Rattle.m161_reach.specs.Told.{TellsRun}
 use Rattle.m161_c.specs.Seeds.{Asked}
-use Rattle.m161_c.specs.helpers.Telling.{TellsRun}
 use Rattle.m161_c.proofs.Listing.{list_right, list_wrong}
 use Rattle.m161_c.proofs.lists.ListRunsRuns.judge_from.Goals as goal
 
@@ -10,9 +10,9 @@ returns-in-Some-clause-ok c =
     let q = self.ends.now in
     let run = c.in_ok-run.run' in
     let told = c.in_ok-told.field-0 in
-    list_wrong c.hanging_are_made.ensures.law self.task.now self.booted.now q self.steps.now self.turns c.args.delays.now run told c.in-Some.told c.in-Some.is
+    list_wrong self.task.now self.booted.now q self.steps.now self.turns c.args.delays.now run told c.in-Some.told c.in-Some.is
     (c.in_ok-run.ensures c.requires)
-    (subst (λ (a : Asked). TellsRun run.is_cut a.few q run.events.items run.judged told) c.task.view_is c.in_ok-told.ensures)
+    (subst (λ (a : Asked). TellsRun a.few q run told) c.task.view_is c.in_ok-told.ensures)
 
 pub returns-in-None-clause-ok : goal.returns-in-None-clause-ok
 returns-in-None-clause-ok c =
@@ -20,6 +20,6 @@ returns-in-None-clause-ok c =
     let q = self.ends.now in
     let run = c.in_ok-run.run' in
     let told = c.in_ok-told.field-0 in
-    list_right c.hanging_are_made.ensures.law self.task.now self.booted.now q self.steps.now self.turns c.args.delays.now run told c.in-None.is
+    list_right self.task.now self.booted.now q self.steps.now self.turns c.args.delays.now run told c.in-None.is
     (c.in_ok-run.ensures c.requires)
-    (subst (λ (a : Asked). TellsRun run.is_cut a.few q run.events.items run.judged told) c.task.view_is c.in_ok-told.ensures)
+    (subst (λ (a : Asked). TellsRun a.few q run told) c.task.view_is c.in_ok-told.ensures)

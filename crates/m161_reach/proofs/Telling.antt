@@ -1,4 +1,4 @@
-use Rattle.std.proofs.Common.{◌≡◌, ◌∙◌, ◌⊎◌, inl, inr, refl, ap, sym, subst, ℕ, zero, suc, ◌<◌, arith, Bool, true, false, List, [], ◌∷◌, take, Option, None, Some, Result, Ok, Err}
+use Rattle.std.proofs.Common.{◌≡◌, ◌∙◌, ◌⊎◌, inl, inr, ap, sym, subst, ℕ, zero, suc, ◌<◌, arith, true, false, List, [], ◌∷◌, take, Option, None, Some, Result, Ok, Err}
 use Rattle.std.specs.Prelude.{IfOk, if◌then◌else◌, nat_lt, option_map, slice_get}
 use Rattle.std.proofs.lemmas.Bool.Decides.{nat_tests}
 use Rattle.std.proofs.lemmas.Option.{slice_get_within}
@@ -6,22 +6,18 @@ use Rattle.m161_cpu.specs.declared.processor.Outcome.{Outcome}
 use Rattle.m161_judge.specs.declared.verdict.Judged.{Judged}
 use Rattle.m161_judge.specs.declared.verdict.Verdict.{Verdict}
 use Rattle.m161_judge.specs.declared.verdict.Verdict.TheVariants.{End}
-use Rattle.m161_judge.specs.Judge.{BootsState, Judges}
 use Rattle.m161_judge.specs.Verdict.{Criteria, IsJudged, IsRefused, after, going_on, rank}
-use Rattle.m161_machine.specs.declared.conf.BootError.{BootError}
-use Rattle.m161_machine.specs.declared.conf.Conf.{Conf}
 use Rattle.m161_machine.specs.declared.event.Event.{Event}
 use Rattle.m161_machine.specs.declared.event.Refusal.{Refusal}
-use Rattle.m161_machine.specs.History.{IsBootState, boot_fault, boot_state}
+use Rattle.m161_machine.specs.History.{boot_state}
 use Rattle.m161_machine.specs.State.{State, next}
-use Rattle.m161_machine.proofs.OneBoot.{booted_as_one}
+use Rattle.m161_states.specs.Question.{Question, booted, least}
+use Rattle.m161_reach.specs.declared.told.Told.{Told}
 use Rattle.m161_reach.specs.From.{asked_of, no_time, with_known}
 use Rattle.m161_reach.specs.Hangs.{HangFirst, HangingAreMade, NeverHang}
 use Rattle.m161_reach.specs.Reach.{CanBeAsked, start_in}
-use Rattle.m161_states.specs.Question.{Question, booted, least}
-use Rattle.m161_c.specs.declared.told.Told.{Told}
-use Rattle.m161_c.specs.Told.{Hang, HangNot, IsRunTold, IsTold, NoneBefore, ends_of, told_of}
-use Rattle.m161_c.specs.helpers.Telling.{AsksEnds, BeginsAt, TellsOf, TellsRun, comes_first}
+use Rattle.m161_reach.specs.Told.{Hang, HangNot, IsTold, NoneBefore, TellsOf, ends_of, told_of}
+use Rattle.m161_reach.specs.helpers.Telling.{IsFinding, comes_first}
 
 -- The verdict of a search.
 
@@ -94,52 +90,17 @@ asked_so few goal s q events judged asks (inl first) = inl first
 asked_so few goal s q events judged asks (inr (inl none)) = inr (inl none)
 asked_so few goal s q events judged asks (inr (inr never)) = inr (inr (subst (λ x. NeverHang x few events) asks never))
 
-pub tells : HangingAreMade → (few : ℕ) (goal : Criteria) (s : State) (q : Question) (events : List Event) (judged : Option Judged) (told : Option Told) →
-    AsksEnds goal s q → IsJudged goal s events judged → TellsOf few q events judged told → IsTold few goal s events told
-tells law few goal s q events judged told asks h (inl same) =
+tells : HangingAreMade → (few : ℕ) (q : Question) (events : List Event) (judged : Option Judged) (told : Option Told) →
+    IsFinding few q events judged told → TellsOf few q events judged told
+tells law few q events judged told (inl same) = λ goal s asks h.
     subst (IsTold few goal s events) (sym same.same) (as_judged few goal s events judged h (asked_so few goal s q events judged asks.asks same.why))
-tells law few goal s q events judged told asks h (inr hang) =
+tells law few q events judged told (inr hang) = λ goal s asks h.
     let hangs : HangFirst (asked_of s (ends_of goal)) few events hang.n = subst (λ x. HangFirst x few events hang.n) asks.asks hang.hangs in
     let led = made law goal s few events hang.n asks.can hangs in
     let all : Hang few goal s events hang.n = (hang.some, none_before goal s led.0 events judged led.1 hang.late h, hangs) in
     subst (IsTold few goal s events) (sym hang.is) all
 
-pub tells_all : {E : Type 0} → HangingAreMade → (few : ℕ) (goal : Criteria) (s : State) (q : Question) (events : List Event) (judged : Option Judged)
-    (result : Result (Option Told) E) → AsksEnds goal s q → IsJudged goal s events judged → IfOk result (TellsOf few q events judged) →
-    IfOk result (IsTold few goal s events)
-tells_all law few goal s q events judged (Ok told) asks h of = tells law few goal s q events judged told asks h of
-tells_all law few goal s q events judged (Err why) asks h of = tt
-
-pub tells_run : HangingAreMade → (cut : Bool) (few : ℕ) (goal : Criteria) (s : State) (q : Question) (events : List Event) (judged : Option Judged) (told : Option Told) →
-    AsksEnds goal s q → IsJudged goal s events judged → TellsRun cut few q events judged told → IsRunTold cut few goal s events told
-tells_run law true few goal s q events judged told asks h of = tells law few goal s q events judged told asks h of
-tells_run law false few goal s q events judged told asks h of = (judged, h, of)
-
--- States at boot.
-
-begun_by : (file : List ℕ) (conf : Conf) (s : State) (fault : Option BootError) → BootsState file conf fault (Ok s) → IsBootState file conf s
-begun_by file conf s (Some first) h = absurd h
-begun_by file conf s None h = h
-
-pub begun : (file : List ℕ) (conf : Conf) (s : State) → BeginsAt file conf s → IsBootState file conf s
-begun file conf s h = begun_by file conf s (boot_fault file conf) h
-
-no_fault_by : (file : List ℕ) (conf : Conf) (s : State) (fault : Option BootError) → BootsState file conf fault (Ok s) → fault ≡ None
-no_fault_by file conf s (Some first) h = absurd h
-no_fault_by file conf s None h = refl
-
-pub no_fault : (file : List ℕ) (conf : Conf) (s : State) → BeginsAt file conf s → boot_fault file conf ≡ None
-no_fault file conf s h = no_fault_by file conf s (boot_fault file conf) h
-
--- events that were judged from one
-
-judged_by : (file : List ℕ) (conf : Conf) (s : State) (fault : Option BootError) (events : List Event) (goal : Criteria) (judged : Option Judged) →
-    IsBootState file conf s → Judges file conf fault events goal (Ok judged) → IsJudged goal s events judged
-judged_by file conf s (Some first) events goal judged boots h = absurd cc
-judged_by file conf s None events goal judged boots h =
-    subst (λ x. IsJudged goal x events judged) (booted_as_one file conf h.1.0 s h.1.1 boots) h.1.2
-
-pub judged_at : (file : List ℕ) (conf : Conf) (s : State) (events : List Event) (goal : Criteria) (judged : Option Judged) → BeginsAt file conf s →
-    Judges file conf (boot_fault file conf) events goal (Ok judged) → IsJudged goal s events judged
-judged_at file conf s events goal judged begins h =
-    judged_by file conf s (boot_fault file conf) events goal judged (begun file conf s begins) h
+pub tells_all : {E : Type 0} → HangingAreMade → (few : ℕ) (q : Question) (events : List Event) (judged : Option Judged) (result : Result (Option Told) E) →
+    IfOk result (IsFinding few q events judged) → IfOk result (TellsOf few q events judged)
+tells_all law few q events judged (Ok told) found = tells law few q events judged told found
+tells_all law few q events judged (Err why) found = tt

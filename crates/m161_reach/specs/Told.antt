@@ -1,22 +1,20 @@
 use Rattle.std.specs.Prelude.{◌≡◌, ◌⊎◌, ℕ, ◌<◌, Bool, true, false, List, [], Option, None, Some, option_map}
+use Rattle.m161_judge.specs.declared.run.JudgedRun.{JudgedRun}
 use Rattle.m161_judge.specs.declared.verdict.Judged.{Judged}
 use Rattle.m161_judge.specs.declared.verdict.Verdict.{Verdict}
 use Rattle.m161_judge.specs.declared.verdict.Verdict.TheVariants.{End}
 use Rattle.m161_judge.specs.Verdict.{Criteria, Holds, IsJudged, rank}
 use Rattle.m161_machine.specs.declared.event.Event.{Event}
 use Rattle.m161_machine.specs.State.{State}
-use Rattle.m161_reach.specs.From.{asked_of}
+use Rattle.m161_states.specs.Question.{Question}
+use Rattle.m161_reach.specs.declared.told.SearchVerdict.{SearchVerdict}
+use Rattle.m161_reach.specs.declared.told.SearchVerdict.TheVariants.{Run, Hung}
+use Rattle.m161_reach.specs.declared.told.Told.{Told}
+use Rattle.m161_reach.specs.From.{asked_of, no_time, with_known}
 use Rattle.m161_reach.specs.Hangs.{HangFirst, NeverHang}
-use Rattle.m161_c.specs.declared.answer.Judgement.{Judgement}
-use Rattle.m161_c.specs.declared.answer.VerdictNumbers.{VerdictNumbers}
-use Rattle.m161_c.specs.declared.told.SearchVerdict.{SearchVerdict}
-use Rattle.m161_c.specs.declared.told.SearchVerdict.TheVariants.{Run, Hung}
-use Rattle.m161_c.specs.declared.told.Told.{Told}
-use Rattle.m161_c.specs.Judged.{no_judgement}
-use Rattle.m161_c.specs.Verdicts.{no_verdict, run_verdict}
+use Rattle.m161_reach.specs.Reach.{CanBeAsked}
 
--- The verdict of a search: that of a list of events, or that it hangs, which comes before `end`. (s161_search
--- says it of a task as well: the library doesn't stand on the program's crates.)
+-- The verdict of a search: that of a list of events, or that it hangs, which comes before `end`.
 
 -- by what the states behind a list are looked at: whether they lead to an end, and nothing else
 abbrev pub ends_of : Criteria → Criteria
@@ -57,12 +55,21 @@ IsRunTold true few goal s events told = IsTold few goal s events told
 IsRunTold false few goal s events told =
     (judged : Option Judged) × IsJudged goal s events judged × (told ≡ option_map told_of judged)
 
--- as numbers
+-- this question is asked of the states behind events from s, a state at boot, whatever is known of time: whether
+-- they lead to an end
+pub record AsksEnds (goal : Criteria) (s : State) (q : Question) : Type 0 where
+  pub can : CanBeAsked s (ends_of goal)
+  pub asks : with_known no_time q ≡ asked_of s (ends_of goal)
 
-abbrev pub search_verdict : SearchVerdict → VerdictNumbers
-search_verdict (Run v) = run_verdict v
-search_verdict Hung = record no_verdict { kind = 7 }
+-- of events with this verdict their verdict in a search is told, by whatever they are judged from each state
+-- behind which that is asked
+abbrev pub TellsOf : ℕ → Question → List Event → Option Judged → Option Told → Type 0
+TellsOf few q events judged told =
+    (goal : Criteria) (s : State) → AsksEnds goal s q → IsJudged goal s events judged
+    → IsTold few goal s events told
 
-abbrev pub told_numbers : Option Told → Judgement
-told_numbers None = no_judgement
-told_numbers (Some told) = record { verdict = search_verdict told.verdict; events = told.events }
+-- the same of a run
+abbrev pub TellsRun : ℕ → Question → JudgedRun → Option Told → Type 0
+TellsRun few q run told =
+    (goal : Criteria) (s : State) → AsksEnds goal s q → IsJudged goal s run.events.items run.judged
+    → IsRunTold run.is_cut few goal s run.events.items told

@@ -7,7 +7,7 @@ use Rattle.m161_reach.specs.Reach.{CanBeAsked}
 use Rattle.m161_c.specs.Explored.{AreAllGood}
 use Rattle.m161_c.specs.helpers.Explored.{IsUnwatched}
 use Rattle.m161_c.proofs.Exploring.{unwatched}
-use Rattle.m161_c.proofs.told.asked_core.Goals as goal
+use Rattle.m161_c.proofs.asked.asked_core.Goals as goal
 
 pub returns-in_err-check_watches-clause-err : goal.returns-in_err-check_watches-clause-err
 returns-in_err-check_watches-clause-err c =
